@@ -1,0 +1,10 @@
+pub mod Sums
+pub mod Carryless
+pub mod Degrees
+pub mod Equal
+pub mod Products
+pub mod Factors
+pub mod Inverses
+pub mod Laws
+pub mod Turns
+pub mod Worked

@@ -1,0 +1,7 @@
+mod Counts
+mod Deciding
+pub mod Kept
+pub mod Lawfully
+mod Least
+mod Searches
+mod Told

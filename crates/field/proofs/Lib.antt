@@ -1,0 +1,9 @@
+pub mod First
+pub mod Least
+pub mod Tested
+pub mod Prop
+pub mod Checked
+pub mod Derived
+pub mod Cancel
+pub mod Unique
+pub mod Tells

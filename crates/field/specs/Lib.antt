@@ -1,0 +1,4 @@
+pub mod Tables
+pub mod Only
+pub mod Refusals
+pub mod Every

@@ -1,0 +1,4 @@
+mod residues;
+
+pub use residues::Prime;
+pub use residues::PrimeField;

@@ -1,0 +1,11 @@
+mod Order
+mod Steps
+mod Scale
+mod Products
+mod Search
+mod Rule
+mod Signs
+mod Bits
+mod Sums
+mod Numbers
+mod Laws

@@ -1,0 +1,4 @@
+#[cfg(test)]
+mod levels;
+#[cfg(test)]
+mod refusals;

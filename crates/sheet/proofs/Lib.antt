@@ -1,0 +1,10 @@
+pub mod Turns
+pub mod Splits
+pub mod Fields
+pub mod Tests
+pub mod Walks
+pub mod Spelling
+pub mod Glue
+pub mod Inverse
+pub mod Sound
+pub mod Complete

@@ -1,0 +1,12 @@
+pub mod Grids
+pub mod Solved
+pub mod Copies
+pub mod Refusal
+pub mod Algebra
+pub mod Norm
+pub mod Codes
+pub mod Laws
+pub mod Agrees
+pub mod Only
+pub mod Whole
+pub mod Made

@@ -1,0 +1,5 @@
+pub mod Grids
+pub mod Towers
+pub mod Raised
+pub mod Copies
+pub mod Made

@@ -1,0 +1,15 @@
+pub mod Over
+pub mod Places
+pub mod Tree
+pub mod Decoder
+pub mod Statement
+pub mod Join
+pub mod Rows
+pub mod RowLaws
+pub mod Columns
+pub mod Frame
+pub mod Areas
+pub mod Checks
+pub mod Effects
+pub mod Run
+pub mod Worked
