@@ -90,7 +90,7 @@ impl SheetFault {
             SheetFault::NotDue(_) => Layer::Text,
             SheetFault::NotWritten(_) => Layer::Text,
             SheetFault::OutOfRange(_) => Layer::Record,
-            SheetFault::Full(_) => Layer::Text,
+            SheetFault::Full(_) => Layer::Record,
             SheetFault::Refused(_) => Layer::Code,
         }
     }

@@ -1,0 +1,16 @@
+pub mod Written
+pub mod Vectors
+pub mod Joined
+pub mod Steps
+pub mod Opposites
+pub mod Turns
+pub mod Phases
+pub mod AllRows
+pub mod Places
+pub mod Summed
+pub mod Bodies
+pub mod Scans
+pub mod Wants
+pub mod Decisions
+pub mod Passed
+pub mod Rounded

@@ -1,0 +1,10 @@
+pub mod Vectors
+pub mod Blocks
+pub mod Joins
+pub mod Row
+pub mod Columns
+pub mod AllRows
+pub mod Round
+pub mod Slips
+pub mod Words
+pub mod Calls

@@ -1,0 +1,10 @@
+pub mod Count
+pub mod Words
+pub mod Search
+pub mod Columns
+pub mod Rows
+pub mod Rank
+pub mod Encoded
+pub mod Laws
+pub mod Elimination
+pub mod Filling
