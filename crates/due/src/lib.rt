@@ -1,11 +1,13 @@
 // What the calls on a frame ask of the field, the slip and what is lent, one test each.
 ghost use mathlib.Core.Path.{_≡_};
+ghost use Prim.Native.Nat.{suc, _+_, _*_, min};
 ghost use lib.Dec.{eqb, leb, ltb};
 ghost use lib.ListN.{length};
 ghost use Rattle.code.specs.Views.{view};
 ghost use Rattle.tree.specs.Frame.{numbersOf, sameNumbers, areaWords};
 ghost use Rattle.due.specs.Numbers.{numbersIn};
 use code::code::Code;
+use code::table::Header;
 use field::Field;
 
 // The numbers of a code: q, N, M, W, C and L.
@@ -94,4 +96,44 @@ pub fn has_rounds(code: &Code, made: u16) -> bool
     ensures { λ r. ⌜ r ≡ ltb made (view (now (code .entry)) .header .limit) ⌝ }
 {
     made < code.header().limit
+}
+
+// What a round tells: the rounds made, how many rows fail, and the pairs of its joins.
+#[derive(Clone, Copy, PartialEq, Eq, Debug)]
+pub struct Told {
+    pub rounds: u16,
+    pub failing: u16,
+    pub pairs: u32,
+}
+
+// What a round tells, put together.
+pub fn told_of(rounds: u16, failing: u16, pairs: u32) -> Told
+    ensures { λ r. ⌜ r ≡ record { rounds = rounds; failing = failing; pairs = pairs } ⌝ }
+{
+    Told {
+        rounds,
+        failing,
+        pairs,
+    }
+}
+
+// The rounds made, with one more; 65,535 is the most.
+pub fn one_more(made: u16) -> u16
+    ensures { λ r. ⌜ r ≡ min (suc made) 65535 ⌝ }
+{
+    made.saturating_add(1)
+}
+
+// Whether no row fails.
+pub fn none_fails(failing: u16) -> bool
+    ensures { λ r. ⌜ r ≡ eqb failing 0 ⌝ }
+{
+    failing == 0
+}
+
+// Where a column's distances begin in the area.
+pub fn distances_at(header: Header, column: u16) -> usize
+    ensures { λ r. ⌜ r ≡ (header .columns + column) * header .order ⌝ }
+{
+    (header.columns as usize + column as usize) * header.order as usize
 }

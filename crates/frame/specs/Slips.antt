@@ -13,7 +13,7 @@ use Rattle.frame.specs.declared.slip.LoadingSlip.{LoadingSlip}
 use Rattle.frame.specs.declared.slip.RunningSlip.{RunningSlip}
 use Rattle.frame.specs.declared.slip.NotStarted.{NotStarted}
 use Rattle.frame.specs.declared.slip.NotConcluded.{NotConcluded}
-use Rattle.frame.specs.declared.slip.Told.{Told}
+use Rattle.due.specs.declared.Told.{Told}
 
 -- the number of each refusal
 abbrev pub numberOf : FrameRefusal → ℕ

@@ -26,6 +26,7 @@ mod within;
 mod words;
 
 pub use concluding::conclude;
+pub use due::Told;
 pub use loading::load;
 pub use opening::open;
 pub use reading::read;
@@ -35,5 +36,4 @@ pub use slip::LoadingSlip;
 pub use slip::NotConcluded;
 pub use slip::NotStarted;
 pub use slip::RunningSlip;
-pub use slip::Told;
 pub use starting::start;

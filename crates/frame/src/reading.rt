@@ -1,4 +1,3 @@
-ghost use Prim.Native.Nat.{_+_, _*_};
 ghost use mathlib.Core.Path.{_≡_};
 ghost use mathlib.Core.Bool.{cond};
 ghost use lib.ListN.{length};
@@ -11,7 +10,7 @@ use crate::decide::lowest;
 use crate::refusal::FrameRefusal;
 use crate::slip::RunningSlip;
 use code::code::Code;
-use code::table::Header;
+use due::distances_at;
 use due::has_codes;
 use due::has_column;
 use due::has_numbers;
@@ -39,13 +38,6 @@ fn refusal(
         return Some(FrameRefusal::Length);
     }
     None
-}
-
-// Where a column's distances begin.
-fn distances_at(header: Header, column: u16) -> usize
-    ensures { λ r. ⌜ r ≡ (header .columns + column) * header .order ⌝ }
-{
-    (header.columns as usize + column as usize) * header.order as usize
 }
 
 // Copies a column's distances to the target and answers its decided symbol, the lowest code of least distance.

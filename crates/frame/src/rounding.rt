@@ -1,4 +1,3 @@
-ghost use Prim.Native.Nat.{suc, _<_};
 ghost use mathlib.Core.Path.{_≡_};
 ghost use mathlib.Core.Bool.{cond};
 ghost use Rattle.code.specs.Views.{view};
@@ -12,13 +11,15 @@ use crate::lows::channel_low;
 use crate::lows::to_check_low;
 use crate::refusal::FrameRefusal;
 use crate::slip::RunningSlip;
-use crate::slip::Told;
 use crate::symbols::failing_rows;
 use code::code::Code;
+use due::Told;
 use due::has_numbers;
 use due::has_order;
 use due::has_room;
 use due::has_rounds;
+use due::one_more;
+use due::told_of;
 use field::Field;
 use joiner::Joiner;
 
@@ -51,24 +52,6 @@ fn refusal<F: Field>(
     None
 }
 
-// The rounds made, with this one.
-fn one_more(made: u16) -> u16
-    requires { ⌜ made < 200 ⌝ }
-    ensures { λ r. ⌜ r ≡ suc made ⌝ }
-{
-    made + 1
-}
-
-fn told(rounds: u16, failing: u16, pairs: u32) -> Told
-    ensures { λ r. ⌜ r ≡ record { rounds = rounds; failing = failing; pairs = pairs } ⌝ }
-{
-    Told {
-        rounds,
-        failing,
-        pairs,
-    }
-}
-
 // Makes one round and tells the rounds made, how many rows fail and the pairs of its joins; the slip counts the round.
 // Refuses a field of another order, then a slip of other numbers, a short area, a channel or to-check cost above the ceiling,
 // a round past the limit, and writes nothing.
@@ -98,5 +81,5 @@ pub fn round<F: Field, J: Joiner>(
     let failing = failing_rows(field, code, area);
     let made = one_more(slip.made);
     slip.made = made;
-    Ok(told(made, failing, pairs))
+    Ok(told_of(made, failing, pairs))
 }

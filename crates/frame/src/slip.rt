@@ -27,11 +27,3 @@ pub struct NotConcluded {
     pub refusal: FrameRefusal,
     pub slip: RunningSlip,
 }
-
-// What a round tells: the rounds made, how many rows fail, and the pairs of its joins.
-#[derive(Clone, Copy, PartialEq, Eq, Debug)]
-pub struct Told {
-    pub rounds: u16,
-    pub failing: u16,
-    pub pairs: u32,
-}

@@ -9,6 +9,7 @@ ghost use Rattle.tree.specs.Frame.{failing as failingRows};
 use crate::checks::failing;
 use crate::decide::decide;
 use code::code::Code;
+use due::none_fails;
 use field::Field;
 
 // How many rows fail with the decided symbols, by way of `word`.
@@ -47,7 +48,7 @@ fn decided_by<F: Field>(
     ensures answer { λ r. ⌜ r ≡ eqb (failingRows (F·Field .meaning (now (field .entry))) (view (now (code .entry))) (decided (view (now (code .entry))) (partsOf (view (now (code .entry))) (now (area .entry))))) 0 ⌝ }
     ensures word { λ r. ⌜ now (word .exit) ≡ cond r (wordOf (view (now (code .entry))) (partsOf (view (now (code .entry))) (now (area .entry)))) (now (word .entry)) ⌝ }
 {
-    if failing_by(field, code, area, found) != 0 {
+    if !none_fails(failing_by(field, code, area, found)) {
         return false;
     }
     word.copy_from_slice(found);

@@ -1,6 +1,6 @@
 use mathlib.Core.Path.{_≡_, refl, sym, ap, ap₂, subst, _∙_}
 use mathlib.Core.Bool.{true, false, cond}
-use Prim.Native.Nat.{ℕ, suc, _+_, _-_, _*_, _≤_, _<_}
+use Prim.Native.Nat.{ℕ, suc, _+_, _-_, _*_, _≤_, _<_, min}
 use native.Mathlib.Omega.{arith}
 use lib.ListN.{length, getD, take, drop}
 use Rattle.std.proofs.shelf.Bits.{mul-le}
@@ -51,13 +51,6 @@ failing-rows-failing-requires g c κs =
     let p = round-passed F K (c .args .area .now) _ (c .args .slip .now .made) J _ (c .in-rest .ensures tt J) in
     record { order = p .order; room = subst (λ n. areaWords K ≤ n) (sym (c .body-pairs .kept .area)) (p .room) }
 
-pub one-more-made-requires : need.one-more-made-requires
-one-more-made-requires g c κs =
-    let F = g .F·Field .meaning (c .args .field .now) in let J = g .J·Joiner .pairs (c .args .joiner .now) in let K = view (c .args .code .now) in
-    let R = rules-of _ _ _ (c .args .code .now .admitted) in
-    let p = round-passed F K (c .args .area .now) _ (c .args .slip .now .made) J _ (c .in-rest .ensures tt J) in
-    omega (arith, p .left, R .header .limit .1)
-
 pub returns : need.returns
 unfolding nextSlip
 returns g c =
@@ -75,9 +68,12 @@ returns g c =
     ∙ ap (λ S. roundPairs J F (codeOf (K .header) (K .edges) S) (partsOf (codeOf (K .header) (K .edges) S) before .to-check)) (c .entries .ensures .answer) in
     let f : c .failing-rows-failing .result ≡ failing F K (decided K (nextParts F K (rounds J) (partsOf K before))) = c .failing-rows-failing .ensures ∙ same-failing F K R J before after (M .held) in
     let o = c .in-rest .ensures tt J in
+    let p = round-passed F K before _ (c .args .slip .now .made) J _ o in
+    let few : min (suc (c .args .slip .now .made)) 65535 ≡ suc (c .args .slip .now .made) = omega (arith, p .left, R .header .limit .1) in
+    let more : c .one-more-made .result ≡ suc (c .args .slip .now .made) = c .one-more-made .ensures ∙ few in
     record {
-      answer = ap (λ t. granted (round-told (t .rounds) (t .failing) (t .pairs))) (c .told .ensures) ∙ ap (λ x. granted (round-told x (c .failing-rows-failing .result) (c .body-pairs .result))) (c .one-more-made .ensures) ∙ ap₂ (λ x y. granted (round-told (suc (c .args .slip .now .made)) x y)) f n ∙ sym o;
-      slip = ap (running (numbersIn (c .args .slip .now .numbers))) (c .one-more-made .ensures) ∙ sym (ap (λ o. cond (grants o) (nextSlip K (rounds J) s) s) o);
+      answer = ap (λ t. granted (round-told (t .rounds) (t .failing) (t .pairs))) (c .told-of .ensures) ∙ ap (λ x. granted (round-told x (c .failing-rows-failing .result) (c .body-pairs .result))) more ∙ ap₂ (λ x y. granted (round-told (suc (c .args .slip .now .made)) x y)) f n ∙ sym o;
+      slip = ap (running (numbersIn (c .args .slip .now .numbers))) more ∙ sym (ap (λ o. cond (grants o) (nextSlip K (rounds J) s) s) o);
       area = area-granted F K (rounds J) s before after _ o (M .held) (M .surplus);
       law = from-theorem;
     }
