@@ -3,6 +3,8 @@ use code::code::admit::admit;
 use code::table::Edge;
 use code::table::Entry;
 use code::table::Header;
+use frame::LoadingSlip;
+use frame::RunningSlip;
 use frame::conclude;
 use frame::load;
 use frame::open;
@@ -60,6 +62,33 @@ static ENTRIES: [Entry; 6] = [
 
 static COSTS: [[u16; 3]; 4] = [[0, 5, 9], [4, 0, 7], [0, 6, 8], [0, 3, 10]];
 
+// Loads each column's costs.
+fn load_all(code: &Code, slip: &LoadingSlip, area: &mut [u16]) {
+    for c in 0..4 {
+        let _ = load(code, slip, area, c as u16, &COSTS[c]);
+    }
+}
+
+// Prints each column's decided symbol and its distances.
+fn print_columns(
+    rt: &LibcRuntime,
+    code: &Code,
+    slip: &RunningSlip,
+    area: &[u16],
+) -> io::Result<()> {
+    for c in 0..4u16 {
+        let mut distances = [0u16; 3];
+        if let Ok(symbol) = read(code, slip, area, c, &mut distances) {
+            println!(
+                rt,
+                "column {}: {} at {} {} {}",
+                c, symbol, distances[0], distances[1], distances[2]
+            )?;
+        }
+    }
+    Ok(())
+}
+
 // Decodes one frame, by hand: open, load, start, one round, read, conclude.
 fn main(rt: LibcRuntime) -> io::Result<()> {
     let mut code = Code::builtin();
@@ -80,9 +109,7 @@ fn main(rt: LibcRuntime) -> io::Result<()> {
     let Ok(slip) = open(&field, &code, &mut area) else {
         return println!(rt, "not opened");
     };
-    for c in 0..4 {
-        let _ = load(&code, &slip, &mut area, c as u16, &COSTS[c]);
-    }
+    load_all(&code, &slip, &mut area);
     let Ok(mut running) = start(&code, slip, &mut area) else {
         return println!(rt, "not started");
     };
@@ -98,16 +125,7 @@ fn main(rt: LibcRuntime) -> io::Result<()> {
         "round {}: {} rows fail, {} pairs",
         told.rounds, told.failing, told.pairs
     )?;
-    let mut distances = [0u16; 3];
-    for c in 0..4u16 {
-        if let Ok(symbol) = read(&code, &running, &area, c, &mut distances) {
-            println!(
-                rt,
-                "column {}: {} at {} {} {}",
-                c, symbol, distances[0], distances[1], distances[2]
-            )?;
-        }
-    }
+    print_columns(&rt, &code, &running, &area)?;
     let mut word = [0u8; 4];
     match conclude(&field, &code, running, &area, &mut word) {
         Ok(rounds) => println!(
