@@ -1,5 +1,6 @@
 -- One sum tells the opposite, and one product the inverse. Assumes nothing.
-use Rattle.std.proofs.Common.{◌≡◌, ℕ, zero, suc, ◌<◌, ◌≤◌, Bool, false, eqb, Some, None, Decides, Option, sym, refl, ap, ◌∙◌, inl, inr, arith, le-ltb, lt-ltb, ne_eqb, MatchOption}
+use Rattle.std.proofs.Common.{◌≡◌, ℕ, zero, suc, ◌<◌, ◌≤◌, Bool, false, eqb, Some, None, Option, sym, refl, ap, ◌∙◌, inl, inr, arith, le-ltb, lt-ltb, ne_eqb}
+use Rattle.std.specs.Option.{option_eq}
 use Rattle.std.proofs.lemmas.Bool.{cases_lt}
 use Rattle.std.proofs.lemmas.Bool.Decides.{same_from_decides, Decides-eqb, Decides-like}
 use Rattle.field.specs.Tables.{Tables, Lawful, least, at_both, sum_of, product_of, opposite_of, inverse_of}
@@ -8,9 +9,9 @@ use Rattle.field.proofs.Unique.{least_out, opposites, inverses, inverse_of_zero}
 use Rattle.field.proofs.Cancel.{zero_product}
 
 -- what `== Some(v)` answers
-pub compared : (o : Option ℕ) (v : ℕ) (r : Bool) → MatchOption o (r ≡ false) (λ x. Decides r (x ≡ v)) → r ≡ is_answer o v
-compared (Some x) v r h = same_from_decides r (eqb x v) h (Decides-eqb x v)
-compared None v r h = h
+pub compared : (o : Option ℕ) (v : ℕ) → option_eq eqb o (Some v) ≡ is_answer o v
+compared (Some x) v = refl
+compared None v = refl
 
 -- where the answer is the one code with f a b = v, the entry v tells it
 tells : (q : ℕ) (f : ℕ → ℕ → ℕ) (a v b : ℕ) → a < q → TheOne q (f a) v (least q f a v) → is_answer (at_both q f a b) v ≡ is_answer (least q f a v) b

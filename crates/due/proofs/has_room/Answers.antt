@@ -3,8 +3,8 @@ use Rattle.std.proofs.lemmas.Nat.{mul-le}
 use Rattle.code.proofs.Lawfully.{rules_of}
 use Rattle.due.proofs.has_room.Goals as goal
 
-pub overflow-mul-result : goal.overflow-mul-result
-overflow-mul-result c =
+pub overflow_mul-result : goal.overflow_mul-result
+overflow_mul-result c =
     let R = rules_of _ _ _ c.args.code.now.admitted in
     let e = c.header-header.ensures.answer in
     let f = ap length c.edges.ensures.answer in

@@ -9,26 +9,26 @@ use Rattle.anyfield.proofs.written.read_field.Goals as goal
 pub towers_in_front-towers-requires : goal.towers_in_front-towers-requires
 towers_in_front-towers-requires c = omega (arith, ap length c.new-parts.ensures, pieces_few 58 c.args.text.now)
 
-pub returns-in-default : goal.returns-in-default
-returns-in-default c =
+pub returns-in_default : goal.returns-in_default
+returns-in_default c =
     let n = c.towers_in_front-towers.result.0 in
     let ps = pieces_of c.towers_in_front-towers.new.parts in
     record {
       answer =
           sym (ap whole (raises_fault n not_written))
-          ∙ ap (λ o. whole (raises n (base_from (option_map (λ x. x.now) o) ps))) (sym c.in-default.is)
+          ∙ ap (λ o. whole (raises n (base_from (option_map (λ x. x.now) o) ps))) (sym c.in_default.is)
           ∙ read_by c.args.text.now (pieces_of c.new-parts.result) n (base_from (option_map (λ x. x.now) c.towers_in_front-towers.result.1) ps) c.new-parts.ensures c.towers_in_front-towers.ensures;
     }
 
-pub returns-in-err-base : goal.returns-in-err-base
-returns-in-err-base c =
+pub returns-in_err-base : goal.returns-in_err-base
+returns-in_err-base c =
     let p = err_from_is_err_and c.from-residual.result c.from-residual.ensures.1 in
     let n = c.towers_in_front-towers.result.0 in
     let ps = pieces_of c.towers_in_front-towers.new.parts in
     record {
       answer = rw (p.1, p.2)
           (sym (ap whole (raises_fault n _))
-          ∙ ap (λ x. whole (raises n x)) c.in-err-base.ensures
+          ∙ ap (λ x. whole (raises n x)) c.in_err-base.ensures
           ∙ ap (λ o. whole (raises n (base_from (option_map (λ x. x.now) o) ps))) (sym c.in-Some.is)
           ∙ read_by c.args.text.now (pieces_of c.new-parts.result) n (base_from (option_map (λ x. x.now) c.towers_in_front-towers.result.1) ps) c.new-parts.ensures c.towers_in_front-towers.ensures);
     }

@@ -6,15 +6,15 @@ use Rattle.anyfield.specs.Written.{raises}
 use Rattle.anyfield.proofs.Raised.{raises_fault, raises_none, raises_less}
 use Rattle.anyfield.proofs.written.towers_from.Goals as goal
 
-pub returns-in-err-field : goal.returns-in-err-field
-returns-in-err-field c =
+pub returns-in_err-field : goal.returns-in_err-field
+returns-in_err-field c =
     let p = err_from_is_err_and c.from-residual.result c.from-residual.ensures.1 in
     let k = c.args.towers - (c.loop-level.-level + 1) in
-    rw (p.1, p.2) (sym (raises_fault k _) ∙ ap (raises k) c.in-err-field.ensures ∙ sym (raises_less c.args.towers c.loop-level.-level _ c.loop-level-test.true) ∙ c.loop-level.invariant)
+    rw (p.1, p.2) (sym (raises_fault k _) ∙ ap (raises k) c.in_err-field.ensures ∙ sym (raises_less c.args.towers c.loop-level.-level _ c.loop-level-test.true) ∙ c.loop-level.invariant)
 
 pub loop-level-preserved : goal.loop-level-preserved
 loop-level-preserved c =
-    ap (raises (c.args.towers - (c.loop-level.-level + 1))) c.in-ok-field.ensures ∙ sym (raises_less c.args.towers c.loop-level.-level _ c.loop-level-test.true) ∙ c.loop-level.invariant
+    ap (raises (c.args.towers - (c.loop-level.-level + 1))) c.in_ok-field.ensures ∙ sym (raises_less c.args.towers c.loop-level.-level _ c.loop-level-test.true) ∙ c.loop-level.invariant
 
 pub returns : goal.returns
 returns c =

@@ -12,8 +12,8 @@ returns-then-not-is_name c =
     ap (raises c.loop-name.towers) (field_base c.in-Some.name.now (pieces_of c.next.new.self) c.if-not-is_name.ensures ∙ ap field_of (sym c.in-Some.ensures.steps))
     ∙ c.loop-name.invariant.2
 
-pub overflow-add-towers : goal.overflow-add-towers
-overflow-add-towers c = omega (arith, c.requires, c.loop-name.invariant.1, ap length c.in-Some.ensures.steps)
+pub overflow_add-towers : goal.overflow_add-towers
+overflow_add-towers c = omega (arith, c.requires, c.loop-name.invariant.1, ap length c.in-Some.ensures.steps)
 
 pub loop-name-preserved : goal.loop-name-preserved
 loop-name-preserved c = (
@@ -26,5 +26,5 @@ loop-name-preserved c = (
 
 pub returns : goal.returns
 returns c =
-    ap (raises c.loop-name.towers) (field_none ∙ ap field_of (sym c.in-default.ensures.steps.0))
+    ap (raises c.loop-name.towers) (field_none ∙ ap field_of (sym c.in_default.ensures.steps.0))
     ∙ c.loop-name.invariant.2

@@ -90,5 +90,5 @@ returns-in-Err-conclude g c =
     let long : K.header.columns ≡ length word = long_of F K J (length word) area (numbers_in s.numbers) s.made o in
     let size : length c.conclude.new.word ≡ length word = ap length (c.conclude.ensures.word ∙ ap (λ (x : Outcome). cond (grants x) (word_of K (parts_of K area)) word) o) in
     let settled : Settled F K J (frame_of area s) after left stop = subst (λ (x : Slip). Settled F K J (record { area = area; slip = x }) after left stop) same c.settle-stop.ensures in
-    absurd (not_refused F K J (length word) (frame_of area s) after left stop (number_of c.in-Err-conclude.field-0.refusal) R long settled c.in-default.is
+    absurd (not_refused F K J (length word) (frame_of area s) after left stop (number_of c.in-Err-conclude.field-0.refusal) R long settled c.in_default.is
     (c.in-Err-conclude.ensures.answer ∙ ap (λ (k : ℕ). outcome F K (concludes k) after left) size))

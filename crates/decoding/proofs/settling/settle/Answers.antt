@@ -25,7 +25,7 @@ returns-in-Err g c =
     c.loop-refusal.area c.round.new.area (numbers_in s.numbers) s.made c.loop-refusal.failing (running_of c.round.new.slip) c.in-Err.refusal c.loop-refusal.invariant o
     (c.round.ensures.area.kept (ap grants o))
     (c.round.ensures.slip ∙ ap (λ (x : Outcome). cond (grants x) (next_slip K (rounds J) (running_of s)) (running_of s)) o)
-    (λ i. (c.type-inv.area i).fits)
+    (λ i. (c.type_inv.area i).fits)
 
 pub returns-then-none_fails : goal.returns-then-none_fails
 unfolding next_slip
@@ -37,7 +37,7 @@ returns-then-none_fails g c =
     c.loop-refusal.area c.round.new.area (numbers_in s.numbers) s.made t.rounds t.failing t.pairs c.loop-refusal.failing (running_of c.round.new.slip) c.loop-refusal.invariant o
     c.round.ensures.area c.round.auto.area
     (c.round.ensures.slip ∙ ap (λ (x : Outcome). cond (grants x) (next_slip K (rounds J) (running_of s)) (running_of s)) o)
-    (λ i. (c.type-inv.area i).fits)
+    (λ i. (c.type_inv.area i).fits)
     (sym c.if-none_fails.ensures)
 
 pub loop-refusal-smaller : goal.loop-refusal-smaller

@@ -16,29 +16,29 @@ use Rattle.encoder.proofs.Promised.{early, encoding_law, encoding_refused, fails
 use Rattle.encoder.proofs.encoding.encode.Given.{Over}
 use Rattle.encoder.proofs.encoding.encode.Goals as goal
 
-pub returns-in-err-open : goal.returns-in-err-open
-returns-in-err-open g c = record {
+pub returns-in_err-open : goal.returns-in_err-open
+returns-in_err-open g c = record {
   answer = result ∙ sym stops;
   word = sym (ap (λ (a : Answer). cond (granted a) (the_word (g.F.Field.meaning c.args.field.now) (check_matrix c.args.code.now) c.args.symbols.now) c.args.word.now) stops);
   scratch = λ e. refl;
-  law = encoding_refused (g.F.Field.meaning c.args.field.now) (check_matrix c.args.code.now) c.args.symbols.now c.args.word.now c.from-residual.result c.in-err-open.field-0.0 result
+  law = encoding_refused (g.F.Field.meaning c.args.field.now) (check_matrix c.args.code.now) c.args.symbols.now c.args.word.now c.from-residual.result c.in_err-open.field-0.0 result
       (early (not (eqb (g.F.Field.meaning c.args.field.now).order c.args.code.now.header.order)) (ltb (length c.args.scratch.now) (c.args.code.now.header.rows * c.args.code.now.header.columns))
       (not (eqb (length c.args.symbols.now) (information_length c.args.code.now))) (not (eqb (length c.args.word.now) c.args.code.now.header.columns))
-      (not (are_codes (g.F.Field.meaning c.args.field.now).order c.args.symbols.now)) c.in-err-open.field-0.0 refusal);
+      (not (are_codes (g.F.Field.meaning c.args.field.now).order c.args.symbols.now)) c.in_err-open.field-0.0 refusal);
   matrix = matrix_told c.args.code.now;
   theory = laws_stand;
   example = example_a;
 }
   where
-    refusal : opening (g.F.Field.meaning c.args.field.now) c.args.code.now (length c.args.symbols.now) (length c.args.scratch.now) (length c.args.word.now) c.args.symbols.now (Ok tt) ≡ Err c.in-err-open.field-0.0
-    refusal = sym c.in-err-open.ensures
+    refusal : opening (g.F.Field.meaning c.args.field.now) c.args.code.now (length c.args.symbols.now) (length c.args.scratch.now) (length c.args.word.now) c.args.symbols.now (Ok tt) ≡ Err c.in_err-open.field-0.0
+    refusal = sym c.in_err-open.ensures
 
-    result : c.from-residual.result ≡ Err c.in-err-open.field-0.0
+    result : c.from-residual.result ≡ Err c.in_err-open.field-0.0
     result = let p = err_from_is_err_and c.from-residual.result c.from-residual.ensures.1 in p.1 ∙ ap Err p.2
 
     stops : opening (g.F.Field.meaning c.args.field.now) c.args.code.now (length c.args.symbols.now) (length c.args.scratch.now) (length c.args.word.now) c.args.symbols.now
-        (refuse (dependent (g.F.Field.meaning c.args.field.now) (check_matrix c.args.code.now)) Dependent (Ok tt)) ≡ Err c.in-err-open.field-0.0
-    stops = opening_stops (g.F.Field.meaning c.args.field.now) c.args.code.now (length c.args.symbols.now) (length c.args.scratch.now) (length c.args.word.now) c.args.symbols.now c.in-err-open.field-0.0 refusal
+        (refuse (dependent (g.F.Field.meaning c.args.field.now) (check_matrix c.args.code.now)) Dependent (Ok tt)) ≡ Err c.in_err-open.field-0.0
+    stops = opening_stops (g.F.Field.meaning c.args.field.now) c.args.code.now (length c.args.symbols.now) (length c.args.scratch.now) (length c.args.word.now) c.args.symbols.now c.in_err-open.field-0.0 refusal
         (refuse (dependent (g.F.Field.meaning c.args.field.now) (check_matrix c.args.code.now)) Dependent (Ok tt))
 
 pub encode_opened-requires : goal.encode_opened-requires
@@ -52,7 +52,7 @@ encode_opened-requires g c = record {
 }
   where
     past : Opened (g.F.Field.meaning c.args.field.now) c.args.code.now (length c.args.symbols.now) (length c.args.scratch.now) (length c.args.word.now) c.args.symbols.now
-    past = opened (g.F.Field.meaning c.args.field.now) c.args.code.now (length c.args.symbols.now) (length c.args.scratch.now) (length c.args.word.now) c.args.symbols.now (sym c.in-ok-open.ensures)
+    past = opened (g.F.Field.meaning c.args.field.now) c.args.code.now (length c.args.symbols.now) (length c.args.scratch.now) (length c.args.word.now) c.args.symbols.now (sym c.in_ok-open.ensures)
 
 pub returns : goal.returns
 returns g c = record {
@@ -68,7 +68,7 @@ returns g c = record {
 }
   where
     passes : opening (g.F.Field.meaning c.args.field.now) c.args.code.now (length c.args.symbols.now) (length c.args.scratch.now) (length c.args.word.now) c.args.symbols.now (Ok tt) ≡ Ok tt
-    passes = sym c.in-ok-open.ensures
+    passes = sym c.in_ok-open.ensures
 
     past : Opened (g.F.Field.meaning c.args.field.now) c.args.code.now (length c.args.symbols.now) (length c.args.scratch.now) (length c.args.word.now) c.args.symbols.now
     past = opened (g.F.Field.meaning c.args.field.now) c.args.code.now (length c.args.symbols.now) (length c.args.scratch.now) (length c.args.word.now) c.args.symbols.now passes

@@ -5,7 +5,7 @@ use Rattle.linear.proofs.Placing.{same_sum, filled_skip, filled_more, asks_for}
 use Rattle.encoder.specs.Bytes.{laid}
 use Rattle.encoder.proofs.Places.{room_at}
 use Rattle.encoder.proofs.filling.finish.Goals as goal
-use Rattle.encoder.proofs.filling.finish.Goals.{in-Some, in-default}
+use Rattle.encoder.proofs.filling.finish.Goals.{in-Some, in_default}
 use Rattle.encoder.proofs.filling.finish.Given.{Over}
 
 pub bounds-matrix-r : goal.bounds-matrix-r
@@ -28,10 +28,10 @@ loop-r-preserved g c =
           w.inverse_of-inverse.ensures.code w.cancelling.ensures.code w.inverse_of-inverse.ensures.is
           (ap (λ (x : ℕ). (g.F.Field.meaning c.args.field.now).product x w.inverse_of-inverse.result) (w.row_sum-sum.ensures.is ∙ same g c))
           w.cancelling.ensures.is))
-      | in-default w ↦
+      | in_default w ↦
           subst (λ (x : List ℕ). FilledTo (g.F.Field.meaning c.args.field.now) (laid c.args.matrix.now c.args.m c.args.n) c.args.owners.now c.args.word.now x (c.loop-r.r + 1)) (sym w.word-is)
           (filled_skip (g.F.Field.meaning c.args.field.now) (g.met.F.Field.lawful c.args.field.now) c.args.m c.args.n (λ r j. get_or c.args.matrix.now (r * c.args.n + j) 0) c.requires.entries
-          c.args.owners.now c.args.word.now c.loop-r.word c.requires.codes c.loop-r.r c.loop-r-test.true c.requires.owned c.loop-r.invariant (c.loop-r.r + 1) (omega arith) w.in-default.is)
+          c.args.owners.now c.args.word.now c.loop-r.word c.requires.codes c.loop-r.r c.loop-r-test.true c.requires.owned c.loop-r.invariant (c.loop-r.r + 1) (omega arith) w.in_default.is)
     ]
   where
     same : (g : Over) (c : goal.Joined-owners-r g) →

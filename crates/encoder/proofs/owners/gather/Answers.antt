@@ -14,8 +14,8 @@ bounds-symbols-k c =
     let b = count_below (length c.args.word.now) c.loop-c.c (free_of c.args.owners.now (length c.args.owners.now)) c.loop-c-test.true (ap not (sym c.owned.ensures ∙ c.if-not-owned.true)) in
     omega arith
 
-pub overflow-add-k : goal.overflow-add-k
-overflow-add-k c =
+pub overflow_add-k : goal.overflow_add-k
+overflow_add-k c =
     let q = count_most c.loop-c.c (free_of c.args.owners.now (length c.args.owners.now)) in
     search rules
 

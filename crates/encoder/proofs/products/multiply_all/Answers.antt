@@ -10,8 +10,8 @@ low g c = let l = (g.met.F.Field.lawful c.args.field.now).low in omega arith
 high : (g : Over) (c : goal.In-loop-x g) → c.order-q.result * c.order-q.result ≤ 4096
 high g c = square c.order-q.result (let l = (g.met.F.Field.lawful c.args.field.now).high in omega arith)
 
-pub overflow-cast-x : goal.overflow-cast-x
-overflow-cast-x g c = let b = quotient_below c.loop-x.x c.order-q.result (low g c) c.loop-x-test.true in omega arith
+pub overflow_cast-x : goal.overflow_cast-x
+overflow_cast-x g c = let b = quotient_below c.loop-x.x c.order-q.result (low g c) c.loop-x-test.true in omega arith
 
 pub times-requires : goal.times-requires
 times-requires g c = record {

@@ -21,7 +21,7 @@ pub loop-c-preserved : goal.loop-c-preserved
 loop-c-preserved g c =
     none_found (g.F.Field.meaning c.args.field.now) (laid c.args.matrix.now c.args.m c.args.n) (laid c.loop-c.matrix c.args.m c.args.n) (c.loop-c.c - 1) c.loop-c.owners
     (one_less (g.F.Field.meaning c.args.field.now) (laid c.args.matrix.now c.args.m c.args.n) (laid c.loop-c.matrix c.args.m c.args.n) c.loop-c.owners c.loop-c.c c.loop-c-test.true c.loop-c.invariant)
-    c.in-default.ensures
+    c.in_default.ensures
 
 pub returns : goal.returns
 returns g c =

@@ -9,7 +9,7 @@ returns g c =
     let t = g.F.Field.meaning c.args.field.now in
     let l = g.met.F.Field.lawful c.args.field.now in
     record {
-      answer = compared c.product.result 1 c.eq.result c.eq.ensures
+      answer = c.eq.ensures ∙ compared c.product.result 1
           ∙ ap (λ (o : Option ℕ). is_answer o 1) c.product.ensures
           ∙ product_tells t l c.args.a c.args.b;
       law = inverses;

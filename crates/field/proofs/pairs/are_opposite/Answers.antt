@@ -9,7 +9,7 @@ returns g c =
     let t = g.F.Field.meaning c.args.field.now in
     let l = g.met.F.Field.lawful c.args.field.now in
     record {
-      answer = compared c.sum.result 0 c.eq.result c.eq.ensures
+      answer = c.eq.ensures ∙ compared c.sum.result 0
           ∙ ap (λ (o : Option ℕ). is_answer o 0) c.sum.ensures
           ∙ sum_tells t l c.args.a c.args.b;
       law = opposites;

@@ -28,8 +28,8 @@ around_one-pairs-requires g c =
           (subst (Low top) (sym (kept (s + x) (inr (omega arith)))) w.0, subst (Low top) (sym (kept (s + 16 + x) (inr (omega arith)))) w.1);
     }
 
-pub overflow-add-pairs : goal.overflow-add-pairs
-overflow-add-pairs g c =
+pub overflow_add-pairs : goal.overflow_add-pairs
+overflow_add-pairs g c =
     let t = g.F.Field.meaning c.args.field.now in let J = g.J.Joiner.pairs c.args.joiner.now in
     let q : t.order ≤ 64 = (g.met.F.Field.lawful c.args.field.now).high in
     let f = few_around J t c.args.ceiling _ _ _ _ (λ l r. g.met.J.Joiner.bounded c.args.joiner.now t.order c.args.ceiling l r) in

@@ -27,7 +27,7 @@ returns-then-not-decided_word g c =
     let F = g.F.Field.meaning c.args.field.now in
     let K = view c.args.code.now in let P = parts_of K c.args.area.now in
     let b : eqb (failing F K (decided K P)) 0 ≡ false = sym c.decided_word.ensures.answer ∙ c.if-not-decided_word.true in
-    let o = c.in-default.ensures.outcome c.args.slip.made ∙ ap (λ b. want b 24 (granted (word_told (word_of K P) c.args.slip.made))) b in
+    let o = c.in_default.ensures.outcome c.args.slip.made ∙ ap (λ b. want b 24 (granted (word_told (word_of K P) c.args.slip.made))) b in
     let kept : c.decided_word.new.word ≡ c.args.word.now = c.decided_word.ensures.word ∙ ap (λ b. cond b (word_of K P) c.args.word.now) c.if-not-decided_word.true in
     record {
       answer = sym o;
@@ -41,7 +41,7 @@ returns g c =
     let F = g.F.Field.meaning c.args.field.now in
     let K = view c.args.code.now in let P = parts_of K c.args.area.now in
     let b : eqb (failing F K (decided K P)) 0 ≡ true = sym c.decided_word.ensures.answer ∙ c.if-not-decided_word.false in
-    let o = c.in-default.ensures.outcome c.args.slip.made ∙ ap (λ b. want b 24 (granted (word_told (word_of K P) c.args.slip.made))) b in
+    let o = c.in_default.ensures.outcome c.args.slip.made ∙ ap (λ b. want b 24 (granted (word_told (word_of K P) c.args.slip.made))) b in
     let new : c.decided_word.new.word ≡ word_of K P = c.decided_word.ensures.word ∙ ap (λ b. cond b (word_of K P) c.args.word.now) c.if-not-decided_word.false in
     record {
       answer = ap (λ w. granted (word_told w c.args.slip.made)) new ∙ sym o;

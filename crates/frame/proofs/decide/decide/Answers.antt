@@ -4,8 +4,8 @@ use Rattle.frame.specs.Words.{symbol_at}
 use Rattle.frame.proofs.Scans.{block_room, part_lowest, set_below}
 use Rattle.frame.proofs.decide.decide.Goals as goal
 
-pub slice-bounds-lowest-end : goal.slice-bounds-lowest-end
-slice-bounds-lowest-end c = let r = block_room (c.args.n + c.loop-c.c) (c.args.n + c.args.n) c.args.q (length c.args.area.now) (omega arith) c.requires.room.0 in omega arith
+pub slice_bounds-lowest-end : goal.slice_bounds-lowest-end
+slice_bounds-lowest-end c = let r = block_room (c.args.n + c.loop-c.c) (c.args.n + c.args.n) c.args.q (length c.args.area.now) (omega arith) c.requires.room.0 in omega arith
 
 pub loop-c-preserved : goal.loop-c-preserved
 loop-c-preserved c =

@@ -16,8 +16,8 @@ returns-in-Some g c =
     let F = g.F.Field.meaning c.args.field.now in let K = view c.args.code.now in
     record { answer = sym c.in-Some.ensures; area = area_refused F K opens no_slip c.args.area.now (number_of c.in-Some.refusal) c.in-Some.ensures }
 
-pub overflow-mul-held-3 : goal.overflow-mul-held-3
-overflow-mul-held-3 g c =
+pub overflow_mul-held-3 : goal.overflow_mul-held-3
+overflow_mul-held-3 g c =
     let R = rules_of _ _ _ c.args.code.now.admitted in let K = view c.args.code.now in
     let n = c.numbers_of-numbers.result in let e = c.numbers_of-numbers.ensures in
     let a : n.columns ≡ K.header.columns = ap (λ x. x.columns) e in let b : n.width ≡ length K.edges = ap (λ x. x.width) e in let d : n.order ≡ K.header.order = ap (λ x. x.order) e in
@@ -27,7 +27,7 @@ pub clear-requires : goal.clear-requires
 clear-requires g c =
     let F = g.F.Field.meaning c.args.field.now in let K = view c.args.code.now in
     let e = c.numbers_of-numbers.ensures in
-    let p = open_passed F K c.args.area.now no_slip _ c.in-default.ensures in
+    let p = open_passed F K c.args.area.now no_slip _ c.in_default.ensures in
     let m = mul-le (2 * K.header.columns + 2 * length K.edges) K.header.order (2 * K.header.columns + 2 * length K.edges + 36) K.header.order (omega arith) (omega arith) in
     let r : held_words K ≤ length c.args.area.now = omega (arith, p.1) in
     subst (λ x. (2 * x.columns + 2 * x.width) * x.order ≤ length c.args.area.now) (sym e) r
@@ -38,9 +38,9 @@ returns g c =
     let R = rules_of _ _ _ c.args.code.now.admitted in
     let e = c.numbers_of-numbers.ensures in
     let before = c.args.area.now in let after = c.clear.new.area in
-    let p = open_passed F K before no_slip _ c.in-default.ensures in
+    let p = open_passed F K before no_slip _ c.in_default.ensures in
     let Z : Written 0 (held_words K) (λ k. 0) before after = subst (λ x. Written 0 ((2 * x.columns + 2 * x.width) * x.order) (λ k. 0) before after) e c.clear.ensures in
     record {
-      answer = ap (λ n. granted (slip_given (loading n))) e ∙ sym c.in-default.ensures;
-      area = area_granted F K opens no_slip before after _ c.in-default.ensures (opened_held K R before after p.1 c.clear.auto.area F Z) (opened_surplus K R before after p.1 c.clear.auto.area F Z);
+      answer = ap (λ n. granted (slip_given (loading n))) e ∙ sym c.in_default.ensures;
+      area = area_granted F K opens no_slip before after _ c.in_default.ensures (opened_held K R before after p.1 c.clear.auto.area F Z) (opened_surplus K R before after p.1 c.clear.auto.area F Z);
     }

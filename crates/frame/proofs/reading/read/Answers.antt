@@ -27,10 +27,10 @@ returns-in-Some c =
       target = λ F. sym (ap (λ o. cond (grants o) (told K (parts_of K c.args.area.now) c.args.column) c.args.target.now) (c.in-Some.ensures F));
     }
 
-pub slice-bounds-copy_from_slice-end : goal.slice-bounds-copy_from_slice-end
-slice-bounds-copy_from_slice-end c =
+pub slice_bounds-copy_from_slice-end : goal.slice_bounds-copy_from_slice-end
+slice_bounds-copy_from_slice-end c =
     let K = view c.args.code.now in let area = c.args.area.now in
-    let p = read_passed any K area _ c.args.slip.now.made c.args.column _ _ (c.in-default.ensures any) in
+    let p = read_passed any K area _ c.args.slip.now.made c.args.column _ _ (c.in_default.ensures any) in
     let b = block_room (K.header.columns + c.args.column) (2 * K.header.columns + 2 * length K.edges + 36) K.header.order (length area) (omega (arith, p.column)) p.room in
     let r = subst (λ h. (h.columns + c.args.column) * h.order + h.order ≤ length area) (sym c.header-header.ensures.answer) b in
     omega arith
@@ -38,7 +38,7 @@ slice-bounds-copy_from_slice-end c =
 pub copy_from_slice-requires : goal.copy_from_slice-requires
 copy_from_slice-requires c =
     let K = view c.args.code.now in let area = c.args.area.now in let h = c.header-header.result in
-    let p = read_passed any K area _ c.args.slip.now.made c.args.column _ _ (c.in-default.ensures any) in
+    let p = read_passed any K area _ c.args.slip.now.made c.args.column _ _ (c.in_default.ensures any) in
     let b = block_room (K.header.columns + c.args.column) (2 * K.header.columns + 2 * length K.edges + 36) K.header.order (length area) (omega (arith, p.column)) p.room in
     let s = subst (λ h. (h.columns + c.args.column) * h.order + h.order ≤ length area) (sym c.header-header.ensures.answer) b in
     let at : ℕ = c.distances_at-at.result in
@@ -49,7 +49,7 @@ copy_from_slice-requires c =
 pub lowest-requires : goal.lowest-requires
 lowest-requires c =
     let K = view c.args.code.now in let R = rules_of _ _ _ c.args.code.now.admitted in
-    let p = read_passed any K c.args.area.now _ c.args.slip.now.made c.args.column _ _ (c.in-default.ensures any) in
+    let p = read_passed any K c.args.area.now _ c.args.slip.now.made c.args.column _ _ (c.in_default.ensures any) in
     let l : length c.copy_from_slice.new.self ≡ K.header.order = c.copy_from_slice.ensures.len ∙ p.long in
     (omega (arith, R.header.order.0), omega (arith, R.header.order.1))
 
@@ -57,7 +57,7 @@ pub returns : goal.returns
 unfolding told decided parts_of
 returns c =
     let K = view c.args.code.now in let area = c.args.area.now in let R = rules_of _ _ _ c.args.code.now.admitted in
-    let p = read_passed any K area _ c.args.slip.now.made c.args.column _ _ (c.in-default.ensures any) in
+    let p = read_passed any K area _ c.args.slip.now.made c.args.column _ _ (c.in_default.ensures any) in
     let q : ℕ = K.header.order in
     let j : ℕ = K.header.columns + c.args.column in
     let b = block_room j (2 * K.header.columns + 2 * length K.edges + 36) q (length area) (omega (arith, p.column)) p.room in
@@ -69,6 +69,6 @@ returns c =
     let d : c.lowest.result ≡ decided K (parts_of K area) c.args.column =
     c.lowest.ensures.is ∙ ap (λ v. lowest_to (pred (length v)) (λ a. get_or v a 0)) part ∙ part_lowest area (j * q) q b (omega (arith, R.header.order.0)) in
     record {
-      answer = λ F. ap₂ (λ w x. granted (column_told w x)) new d ∙ sym (c.in-default.ensures F);
-      target = λ F. new ∙ sym (ap (λ o. cond (grants o) (told K (parts_of K area) c.args.column) c.args.target.now) (c.in-default.ensures F));
+      answer = λ F. ap₂ (λ w x. granted (column_told w x)) new d ∙ sym (c.in_default.ensures F);
+      target = λ F. new ∙ sym (ap (λ o. cond (grants o) (told K (parts_of K area) c.args.column) c.args.target.now) (c.in_default.ensures F));
     }

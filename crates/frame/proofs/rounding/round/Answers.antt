@@ -31,7 +31,7 @@ pub body-pairs-requires : goal.body-pairs-requires
 body-pairs-requires g c =
     let F = g.F.Field.meaning c.args.field.now in let J = g.J.Joiner.pairs c.args.joiner.now in let K = view c.args.code.now in
     let R = rules_of _ _ _ c.args.code.now.admitted in
-    let p = round_passed F K c.args.area.now _ c.args.slip.now.made J _ (c.in-default.ensures J) in
+    let p = round_passed F K c.args.area.now _ c.args.slip.now.made J _ (c.in_default.ensures J) in
     let r : Ready K c.args.area.now = record { admitted = R; room = p.room; channel = p.channel; to_check = p.to_check } in
     record {
       order = p.order ∙ sym (ap (λ h. h.order) c.header.ensures.answer);
@@ -43,7 +43,7 @@ body-pairs-requires g c =
 pub failing_rows-failing-requires : goal.failing_rows-failing-requires
 failing_rows-failing-requires g c =
     let F = g.F.Field.meaning c.args.field.now in let J = g.J.Joiner.pairs c.args.joiner.now in let K = view c.args.code.now in
-    let p = round_passed F K c.args.area.now _ c.args.slip.now.made J _ (c.in-default.ensures J) in
+    let p = round_passed F K c.args.area.now _ c.args.slip.now.made J _ (c.in_default.ensures J) in
     record { order = p.order; room = subst (λ n. area_words K ≤ n) (sym c.body-pairs.auto.area) p.room }
 
 pub returns : goal.returns
@@ -62,7 +62,7 @@ returns g c =
     ∙ ap (λ E. round_pairs J F (code_of K.header E c.entries.result.now) (parts_of (code_of K.header E c.entries.result.now) before).to_check) c.edges.ensures.answer
     ∙ ap (λ S. round_pairs J F (code_of K.header K.edges S) (parts_of (code_of K.header K.edges S) before).to_check) c.entries.ensures.answer in
     let f : c.failing_rows-failing.result ≡ failing F K (decided K (next_parts F K (rounds J) (parts_of K before))) = c.failing_rows-failing.ensures ∙ same_failing F K R J before after M.held in
-    let o = c.in-default.ensures J in
+    let o = c.in_default.ensures J in
     let p = round_passed F K before _ c.args.slip.now.made J _ o in
     let few : min (suc c.args.slip.now.made) 65535 ≡ suc c.args.slip.now.made = omega (arith, p.left, R.header.limit.1) in
     let more : c.one_more-made.result ≡ suc c.args.slip.now.made = c.one_more-made.ensures ∙ few in

@@ -31,7 +31,7 @@ pub begin-requires : goal.begin-requires
 begin-requires c =
     let K = view c.args.code.now in let R = rules_of _ _ _ c.args.code.now.admitted in
     let before = c.args.area.now in
-    let p = start_passed any K before _ _ (c.in-default.ensures any) in
+    let p = start_passed any K before _ _ (c.in_default.ensures any) in
     let b = room_blocks K R before before p.1 refl in
     let r : K.header.columns + K.header.columns ≤ blocks K.header.order before = omega arith in
     record { q = (subst (λ n. n.order ≤ 64) (sym p.0) R.header.order.1, (subst (λ n. n.columns ≤ 256) (sym p.0) R.header.columns.1, subst (λ n. n.columns + n.columns ≤ blocks n.order before) (sym p.0) r)) }
@@ -40,7 +40,7 @@ pub to_checks-requires : goal.to_checks-requires
 to_checks-requires c =
     let K = view c.args.code.now in let R = rules_of _ _ _ c.args.code.now.admitted in
     let before = c.args.area.now in let middle = c.begin.new.area in
-    let p = start_passed any K before _ _ (c.in-default.ensures any) in
+    let p = start_passed any K before _ _ (c.in_default.ensures any) in
     let e = sym c.edges.ensures.answer in
     let b = same_blocks K.header.order before middle c.begin.auto.area (K.header.columns + K.header.columns + length K.edges) (room_blocks K R before before p.1 refl) in
     let r : c.args.slip.numbers.columns + c.args.slip.numbers.columns + length K.edges ≤ blocks c.args.slip.numbers.order middle = subst (λ n. n.columns + n.columns + length K.edges ≤ blocks n.order middle) (sym p.0) b in
@@ -54,7 +54,7 @@ pub returns : goal.returns
 returns c =
     let K = view c.args.code.now in let R = rules_of _ _ _ c.args.code.now.admitted in
     let before = c.args.area.now in let middle = c.begin.new.area in let after = c.to_checks.new.area in
-    let p = start_passed any K before _ _ (c.in-default.ensures any) in
+    let p = start_passed any K before _ _ (c.in_default.ensures any) in
     let e = c.edges.ensures.answer in
     let S1 : Filled K.header.order K.header.columns K.header.columns (λ x. block K.header.order x before) before middle =
     subst (λ n. Filled n.order n.columns n.columns (λ x. block n.order x before) before middle) p.0 c.begin.ensures in
@@ -63,7 +63,7 @@ returns c =
     (subst (λ E. Filled c.args.slip.numbers.order (c.args.slip.numbers.columns + c.args.slip.numbers.columns) (length E) (λ x. block c.args.slip.numbers.order (column_at E x) middle) middle after) e c.to_checks.ensures) in
     let long = c.to_checks.auto.area ∙ c.begin.auto.area in
     record {
-      answer = λ F. ap (λ s. granted (slip_given s)) c.begun.ensures ∙ ap (λ n. granted (slip_given (running n 0))) p.0 ∙ sym (c.in-default.ensures F);
-      back = λ F. sym (ap (λ o. cond (grants o) None (Some (loading_of c.args.slip))) (c.in-default.ensures F));
-      area = λ F. area_granted F K starts _ before after _ (c.in-default.ensures F) (started_held K R before after p.1 long F middle S1 S2) (started_surplus K R before after p.1 long F middle S1 S2);
+      answer = λ F. ap (λ s. granted (slip_given s)) c.begun.ensures ∙ ap (λ n. granted (slip_given (running n 0))) p.0 ∙ sym (c.in_default.ensures F);
+      back = λ F. sym (ap (λ o. cond (grants o) None (Some (loading_of c.args.slip))) (c.in_default.ensures F));
+      area = λ F. area_granted F K starts _ before after _ (c.in_default.ensures F) (started_held K R before after p.1 long F middle S1 S2) (started_surplus K R before after p.1 long F middle S1 S2);
     }

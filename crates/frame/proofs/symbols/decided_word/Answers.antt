@@ -4,7 +4,7 @@ use Rattle.code.proofs.Lawfully.{rules_of}
 use Rattle.code.specs.Views.{view}
 use Rattle.frame.proofs.symbols.decided_word.Goals as goal
 
-pub slice-bounds-found-end : goal.slice-bounds-found-end
-slice-bounds-found-end g c =
+pub slice_bounds-found-end : goal.slice_bounds-found-end
+slice_bounds-found-end g c =
     let R = rules_of _ _ _ c.args.code.now.admitted in
     subst (λ h. h.columns ≤ 256) (sym c.header-n.ensures.answer) R.header.columns.1

@@ -4,7 +4,7 @@ use Rattle.code.proofs.Lawfully.{rules_of}
 use Rattle.code.specs.Views.{view}
 use Rattle.frame.proofs.symbols.failing_rows.Goals as goal
 
-pub slice-bounds-word-end : goal.slice-bounds-word-end
-slice-bounds-word-end g c =
+pub slice_bounds-word-end : goal.slice_bounds-word-end
+slice_bounds-word-end g c =
     let R = rules_of _ _ _ c.args.code.now.admitted in
     subst (λ h. h.columns ≤ 256) (sym c.header-n.ensures.answer) R.header.columns.1

@@ -3,8 +3,8 @@ use Rattle.tree.specs.Over.{every}
 use Rattle.frame.proofs.Scans.{block_room, every_all, every_not, part_every}
 use Rattle.frame.proofs.within.blocks_within.Goals as goal
 
-pub slice-bounds-vector_within-end : goal.slice-bounds-vector_within-end
-slice-bounds-vector_within-end c = let r = block_room (c.args.s + c.loop-c.c) (c.args.s + c.args.n) c.args.q (length c.args.area.now) (omega arith) c.requires.room in omega arith
+pub slice_bounds-vector_within-end : goal.slice_bounds-vector_within-end
+slice_bounds-vector_within-end c = let r = block_room (c.args.s + c.loop-c.c) (c.args.s + c.args.n) c.args.q (length c.args.area.now) (omega arith) c.requires.room in omega arith
 
 pub returns-then-not-vector_within : goal.returns-then-not-vector_within
 returns-then-not-vector_within c =

@@ -5,8 +5,8 @@ use Rattle.joiner.proofs.level.tally.Goals as goal
 pub loop-x-init : goal.loop-x-init
 loop-x-init c = λ k h. omega (arith, count_none (λ a. eqb (get_or c.args.costs.now a 0) k))
 
-pub overflow-add-counts : goal.overflow-add-counts
-overflow-add-counts c =
+pub overflow_add-counts : goal.overflow_add-counts
+overflow_add-counts c =
     let k = get_or c.args.costs.now c.loop-x.x-index 0 in
     let l = c.requires.room c.loop-x.x-index in
     omega (arith, c.loop-x.invariant k l, c.requires.small k l, count_le c.loop-x.x-index (λ a. eqb (get_or c.args.costs.now a 0) k))

@@ -25,15 +25,15 @@ part-coefficient-requires c =
     let s3 = next_there c.args.place l 2 (2 + c.len.result + 1) c.len-2.result (2 + c.len.result + 1 + c.len-2.result + 1) (seen c.part-column.result) s2 c.part-column.ensures c.len-2.ensures refl (omega arith) in
     (s3.inside, omega arith)
 
-pub overflow-add-at-3 : goal.overflow-add-at-3
-overflow-add-at-3 c =
+pub overflow_add-at-3 : goal.overflow_add-at-3
+overflow_add-at-3 c =
     let l = c.args.line.now in
     let s1 = stands_second l (omega arith) c.requires.letter in
     let s2 = next_there c.args.place l 1 (2) c.len.result (2 + c.len.result + 1) (seen c.part-row.result) s1 c.part-row.ensures c.len.ensures refl (omega arith) in
     omega (arith, size_inside c.args.place l 2 (2 + c.len.result + 1) c.len-2.result (seen c.part-column.result) s2 c.part-column.ensures c.len-2.ensures)
 
-pub overflow-add-at-4 : goal.overflow-add-at-4
-overflow-add-at-4 c =
+pub overflow_add-at-4 : goal.overflow_add-at-4
+overflow_add-at-4 c =
     let l = c.args.line.now in
     let s1 = stands_second l (omega arith) c.requires.letter in
     let s2 = next_there c.args.place l 1 (2) c.len.result (2 + c.len.result + 1) (seen c.part-row.result) s1 c.part-row.ensures c.len.ensures refl (omega arith) in

@@ -44,38 +44,38 @@ part-l-requires c =
     let s5 = next_there c.args.place l 4 (2 + c.len.result + 1 + c.len-2.result + 1 + c.len-3.result + 1) c.len-4.result (2 + c.len.result + 1 + c.len-2.result + 1 + c.len-3.result + 1 + c.len-4.result + 1) (seen c.part-c.result) s4 c.part-c.ensures c.len-4.ensures refl (omega arith) in
     (s5.inside, omega arith)
 
-pub overflow-add-at-3 : goal.overflow-add-at-3
-overflow-add-at-3 c =
+pub overflow_add-at-3 : goal.overflow_add-at-3
+overflow_add-at-3 c =
     let l = c.args.line.now in
     let s1 = stands_second l (omega arith) c.requires.letter in
     let s2 = next_there c.args.place l 1 (2) c.len.result (2 + c.len.result + 1) (seen c.part-q.result) s1 c.part-q.ensures c.len.ensures refl (omega arith) in
     omega (arith, size_inside c.args.place l 2 (2 + c.len.result + 1) c.len-2.result (seen c.part-n.result) s2 c.part-n.ensures c.len-2.ensures)
 
-pub overflow-add-at-4 : goal.overflow-add-at-4
-overflow-add-at-4 c =
+pub overflow_add-at-4 : goal.overflow_add-at-4
+overflow_add-at-4 c =
     let l = c.args.line.now in
     let s1 = stands_second l (omega arith) c.requires.letter in
     let s2 = next_there c.args.place l 1 (2) c.len.result (2 + c.len.result + 1) (seen c.part-q.result) s1 c.part-q.ensures c.len.ensures refl (omega arith) in
     omega (arith, size_inside c.args.place l 2 (2 + c.len.result + 1) c.len-2.result (seen c.part-n.result) s2 c.part-n.ensures c.len-2.ensures)
 
-pub overflow-add-at-5 : goal.overflow-add-at-5
-overflow-add-at-5 c =
+pub overflow_add-at-5 : goal.overflow_add-at-5
+overflow_add-at-5 c =
     let l = c.args.line.now in
     let s1 = stands_second l (omega arith) c.requires.letter in
     let s2 = next_there c.args.place l 1 (2) c.len.result (2 + c.len.result + 1) (seen c.part-q.result) s1 c.part-q.ensures c.len.ensures refl (omega arith) in
     let s3 = next_there c.args.place l 2 (2 + c.len.result + 1) c.len-2.result (2 + c.len.result + 1 + c.len-2.result + 1) (seen c.part-n.result) s2 c.part-n.ensures c.len-2.ensures refl (omega arith) in
     omega (arith, size_inside c.args.place l 3 (2 + c.len.result + 1 + c.len-2.result + 1) c.len-3.result (seen c.part-m.result) s3 c.part-m.ensures c.len-3.ensures)
 
-pub overflow-add-at-6 : goal.overflow-add-at-6
-overflow-add-at-6 c =
+pub overflow_add-at-6 : goal.overflow_add-at-6
+overflow_add-at-6 c =
     let l = c.args.line.now in
     let s1 = stands_second l (omega arith) c.requires.letter in
     let s2 = next_there c.args.place l 1 (2) c.len.result (2 + c.len.result + 1) (seen c.part-q.result) s1 c.part-q.ensures c.len.ensures refl (omega arith) in
     let s3 = next_there c.args.place l 2 (2 + c.len.result + 1) c.len-2.result (2 + c.len.result + 1 + c.len-2.result + 1) (seen c.part-n.result) s2 c.part-n.ensures c.len-2.ensures refl (omega arith) in
     omega (arith, size_inside c.args.place l 3 (2 + c.len.result + 1 + c.len-2.result + 1) c.len-3.result (seen c.part-m.result) s3 c.part-m.ensures c.len-3.ensures)
 
-pub overflow-add-at-7 : goal.overflow-add-at-7
-overflow-add-at-7 c =
+pub overflow_add-at-7 : goal.overflow_add-at-7
+overflow_add-at-7 c =
     let l = c.args.line.now in
     let s1 = stands_second l (omega arith) c.requires.letter in
     let s2 = next_there c.args.place l 1 (2) c.len.result (2 + c.len.result + 1) (seen c.part-q.result) s1 c.part-q.ensures c.len.ensures refl (omega arith) in
@@ -83,8 +83,8 @@ overflow-add-at-7 c =
     let s4 = next_there c.args.place l 3 (2 + c.len.result + 1 + c.len-2.result + 1) c.len-3.result (2 + c.len.result + 1 + c.len-2.result + 1 + c.len-3.result + 1) (seen c.part-m.result) s3 c.part-m.ensures c.len-3.ensures refl (omega arith) in
     omega (arith, size_inside c.args.place l 4 (2 + c.len.result + 1 + c.len-2.result + 1 + c.len-3.result + 1) c.len-4.result (seen c.part-c.result) s4 c.part-c.ensures c.len-4.ensures)
 
-pub overflow-add-at-8 : goal.overflow-add-at-8
-overflow-add-at-8 c =
+pub overflow_add-at-8 : goal.overflow_add-at-8
+overflow_add-at-8 c =
     let l = c.args.line.now in
     let s1 = stands_second l (omega arith) c.requires.letter in
     let s2 = next_there c.args.place l 1 (2) c.len.result (2 + c.len.result + 1) (seen c.part-q.result) s1 c.part-q.ensures c.len.ensures refl (omega arith) in

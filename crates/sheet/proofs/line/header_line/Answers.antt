@@ -9,16 +9,16 @@ use Rattle.sheet.proofs.line.header_line.Goals as goal
 
 pub header_from-requires : goal.header_from-requires
 header_from-requires c =
-    let b = c.in-ok-kind_due in
+    let b = c.in_ok-kind_due in
     let k = begins due.Header c.args.place (fields c.args.line.now) _ (sym b.ensures) in
     record { count = only_header _ _ k; letter = (one_letter (get_or (fields c.args.line.now) 0 []) _ k.kind).0; fits = c.requires }
 
-pub returns-in-err-kind_due : goal.returns-in-err-kind_due
+pub returns-in_err-kind_due : goal.returns-in_err-kind_due
 unfolding header_line
-returns-in-err-kind_due c =
+returns-in_err-kind_due c =
     let p = err_from_is_err_and c.from-residual.result c.from-residual.ensures.1 in
-    record { answer = rw (p.1, p.2) (out _ c.in-err-kind_due.ensures); small = rw p.1 tt }
+    record { answer = rw (p.1, p.2) (out _ c.in_err-kind_due.ensures); small = rw p.1 tt }
 
 pub returns : goal.returns
 unfolding header_line
-returns c = record { answer = on _ c.in-ok-kind_due.ensures c.header_from.ensures.answer; small = c.header_from.ensures.small }
+returns c = record { answer = on _ c.in_ok-kind_due.ensures c.header_from.ensures.answer; small = c.header_from.ensures.small }

@@ -6,48 +6,48 @@ use Rattle.sheet.specs.Lines.{kind_due, record_line}
 use Rattle.sheet.proofs.Tests.{on, out, begins, one_letter}
 use Rattle.sheet.proofs.line.record_line.Goals as goal
 
-pub returns-in-err-kind_due : goal.returns-in-err-kind_due
+pub returns-in_err-kind_due : goal.returns-in_err-kind_due
 unfolding record_line
-returns-in-err-kind_due c =
+returns-in_err-kind_due c =
     let p = err_from_is_err_and c.from-residual.result c.from-residual.ensures.1 in
-    rw (p.1, p.2) (out _ c.in-err-kind_due.ensures)
+    rw (p.1, p.2) (out _ c.in_err-kind_due.ensures)
 
 pub edge_from-requires : goal.edge_from-requires
 edge_from-requires c =
-    let e : Ok kind.Edge ≡ kind_due c.args.due c.args.place (fields c.args.line.now) = ap Ok (sym c.in-Edge.is) ∙ c.in-ok-kind_due.ensures in
+    let e : Ok kind.Edge ≡ kind_due c.args.due c.args.place (fields c.args.line.now) = ap Ok (sym c.in-Edge.is) ∙ c.in_ok-kind_due.ensures in
     let b = begins c.args.due c.args.place (fields c.args.line.now) kind.Edge (sym e) in
     record { count = b.count; letter = (one_letter (get_or (fields c.args.line.now) 0 []) kind.Edge b.kind).0; fits = c.requires.fits; small = c.requires.small }
 
 pub entry_from-requires : goal.entry_from-requires
 entry_from-requires c =
-    let e : Ok kind.Entry ≡ kind_due c.args.due c.args.place (fields c.args.line.now) = ap Ok (sym c.in-Entry.is) ∙ c.in-ok-kind_due.ensures in
+    let e : Ok kind.Entry ≡ kind_due c.args.due c.args.place (fields c.args.line.now) = ap Ok (sym c.in-Entry.is) ∙ c.in_ok-kind_due.ensures in
     let b = begins c.args.due c.args.place (fields c.args.line.now) kind.Entry (sym e) in
     record { count = b.count; letter = (one_letter (get_or (fields c.args.line.now) 0 []) kind.Entry b.kind).0; fits = c.requires.fits }
 
-pub returns-in-err-edge_from : goal.returns-in-err-edge_from
+pub returns-in_err-edge_from : goal.returns-in_err-edge_from
 unfolding record_line
-returns-in-err-edge_from c =
-    let p = err_from_is_err_and c.from-residual-in-err-edge_from.result c.from-residual-in-err-edge_from.ensures.1 in
-    rw (p.1, p.2) (on _ (ap Ok (sym c.in-Edge.is) ∙ c.in-ok-kind_due.ensures) (out _ c.in-err-edge_from.ensures))
+returns-in_err-edge_from c =
+    let p = err_from_is_err_and c.from-residual-in_err-edge_from.result c.from-residual-in_err-edge_from.ensures.1 in
+    rw (p.1, p.2) (on _ (ap Ok (sym c.in-Edge.is) ∙ c.in_ok-kind_due.ensures) (out _ c.in_err-edge_from.ensures))
 
-pub returns-in-err-entry_from : goal.returns-in-err-entry_from
+pub returns-in_err-entry_from : goal.returns-in_err-entry_from
 unfolding record_line
-returns-in-err-entry_from c =
-    let p = err_from_is_err_and c.from-residual-in-err-entry_from.result c.from-residual-in-err-entry_from.ensures.1 in
-    rw (p.1, p.2) (on _ (ap Ok (sym c.in-Entry.is) ∙ c.in-ok-kind_due.ensures) (out _ c.in-err-entry_from.ensures))
+returns-in_err-entry_from c =
+    let p = err_from_is_err_and c.from-residual-in_err-entry_from.result c.from-residual-in_err-entry_from.ensures.1 in
+    rw (p.1, p.2) (on _ (ap Ok (sym c.in-Entry.is) ∙ c.in_ok-kind_due.ensures) (out _ c.in_err-entry_from.ensures))
 
 pub returns-in-Header : goal.returns-in-Header
 unfolding record_line
-returns-in-Header c = on _ (ap Ok (sym c.in-Header.is) ∙ c.in-ok-kind_due.ensures) refl
+returns-in-Header c = on _ (ap Ok (sym c.in-Header.is) ∙ c.in_ok-kind_due.ensures) refl
 
-pub returns-in-ok-edge_from : goal.returns-in-ok-edge_from
+pub returns-in_ok-edge_from : goal.returns-in_ok-edge_from
 unfolding record_line
-returns-in-ok-edge_from c = on _ (ap Ok (sym c.in-Edge.is) ∙ c.in-ok-kind_due.ensures) (on _ c.in-ok-edge_from.ensures refl)
+returns-in_ok-edge_from c = on _ (ap Ok (sym c.in-Edge.is) ∙ c.in_ok-kind_due.ensures) (on _ c.in_ok-edge_from.ensures refl)
 
-pub returns-in-ok-entry_from : goal.returns-in-ok-entry_from
+pub returns-in_ok-entry_from : goal.returns-in_ok-entry_from
 unfolding record_line
-returns-in-ok-entry_from c = on _ (ap Ok (sym c.in-Entry.is) ∙ c.in-ok-kind_due.ensures) (on _ c.in-ok-entry_from.ensures refl)
+returns-in_ok-entry_from c = on _ (ap Ok (sym c.in-Entry.is) ∙ c.in_ok-kind_due.ensures) (on _ c.in_ok-entry_from.ensures refl)
 
 pub returns-in-End : goal.returns-in-End
 unfolding record_line
-returns-in-End c = on _ (ap Ok (sym c.in-End.is) ∙ c.in-ok-kind_due.ensures) refl
+returns-in-End c = on _ (ap Ok (sym c.in-End.is) ∙ c.in_ok-kind_due.ensures) refl

@@ -4,14 +4,14 @@ use Rattle.sheet.specs.Words.{value}
 use Rattle.sheet.proofs.Turns.{room, digits_at, value_more}
 use Rattle.sheet.proofs.number.value_of.Goals as goal
 
-pub overflow-sub-b : goal.overflow-sub-b
-overflow-sub-b c = omega (arith, (digits_at c.args.bytes.now c.loop-b.b-index c.loop-b-test.true c.loop-b.invariant.1).0)
+pub overflow_sub-b : goal.overflow_sub-b
+overflow_sub-b c = omega (arith, (digits_at c.args.bytes.now c.loop-b.b-index c.loop-b-test.true c.loop-b.invariant.1).0)
 
-pub overflow-mul-v : goal.overflow-mul-v
-overflow-mul-v c = let r = room c.loop-b.b-index c.loop-b.v 0 (omega arith) c.loop-b.invariant.0 (omega arith) in omega arith
+pub overflow_mul-v : goal.overflow_mul-v
+overflow_mul-v c = let r = room c.loop-b.b-index c.loop-b.v 0 (omega arith) c.loop-b.invariant.0 (omega arith) in omega arith
 
-pub overflow-add-v : goal.overflow-add-v
-overflow-add-v c =
+pub overflow_add-v : goal.overflow_add-v
+overflow_add-v c =
     let d = digits_at c.args.bytes.now c.loop-b.b-index c.loop-b-test.true c.loop-b.invariant.1 in
     let r = room c.loop-b.b-index c.loop-b.v c.from.result (omega arith) c.loop-b.invariant.0 (omega arith) in omega arith
 

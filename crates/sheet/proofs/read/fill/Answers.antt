@@ -4,23 +4,23 @@ use Rattle.sheet.specs.Reading.{Reading, filled, filled_of}
 use Rattle.sheet.proofs.Walks.{same_place, reading_ends, reading_bad, reading_on}
 use Rattle.sheet.proofs.read.fill.Goals as goal
 
-pub returns-in-err-end : goal.returns-in-err-end
-returns-in-err-end c =
+pub returns-in_err-end : goal.returns-in_err-end
+returns-in_err-end c =
     let p = err_from_is_err_and c.from-residual.result c.from-residual.ensures.1 in
-    let e = sym (reading_ends c.args.text.now (length c.args.edges.now) (length c.args.entries.now) c.in-err-end.ensures.cases.1) in
-    record { answer = rw (p.1, p.2) (ap Err c.in-err-end.ensures.cases.0 ∙ ap filled_of e); edges = ap (λ (v : Reading). filled v.edges c.args.edges.now) e; entries = ap (λ (v : Reading). filled v.entries c.args.entries.now) e }
+    let e = sym (reading_ends c.args.text.now (length c.args.edges.now) (length c.args.entries.now) c.in_err-end.ensures.cases.1) in
+    record { answer = rw (p.1, p.2) (ap Err c.in_err-end.ensures.cases.0 ∙ ap filled_of e); edges = ap (λ (v : Reading). filled v.edges c.args.edges.now) e; entries = ap (λ (v : Reading). filled v.entries c.args.entries.now) e }
 
-pub returns-in-err-header : goal.returns-in-err-header
-returns-in-err-header c =
-    let p = err_from_is_err_and c.from-residual-in-err-header.result c.from-residual-in-err-header.ensures.1 in
-    let e = sym (reading_bad c.args.text.now (length c.args.edges.now) (length c.args.entries.now) c.in-ok-end.end c.in-ok-end.ensures.cases _ c.in-err-header.ensures.answer) in
+pub returns-in_err-header : goal.returns-in_err-header
+returns-in_err-header c =
+    let p = err_from_is_err_and c.from-residual-in_err-header.result c.from-residual-in_err-header.ensures.1 in
+    let e = sym (reading_bad c.args.text.now (length c.args.edges.now) (length c.args.entries.now) c.in_ok-end.end c.in_ok-end.ensures.cases _ c.in_err-header.ensures.answer) in
     record { answer = rw (p.1, p.2) (ap filled_of e); edges = ap (λ (v : Reading). filled v.edges c.args.edges.now) e; entries = ap (λ (v : Reading). filled v.entries c.args.entries.now) e }
 
 pub returns : goal.returns
 returns c =
     let es = length c.args.edges.now in
     let ks = length c.args.entries.now in
-    let e = same_place c.args.text.now c.in-ok-header.header c.below-start.result 2 (c.in-ok-end.end + 1) es ks c.below-start.ensures.line c.below-start.ensures.byte ∙ sym (reading_on c.args.text.now es ks c.in-ok-end.end c.in-ok-end.ensures.cases c.in-ok-header.header c.in-ok-header.ensures.answer) in
+    let e = same_place c.args.text.now c.in_ok-header.header c.below-start.result 2 (c.in_ok-end.end + 1) es ks c.below-start.ensures.line c.below-start.ensures.byte ∙ sym (reading_on c.args.text.now es ks c.in_ok-end.end c.in_ok-end.ensures.cases c.in_ok-header.header c.in_ok-header.ensures.answer) in
     record {
       answer = c.fill_tables.ensures.answer ∙ ap filled_of e;
       edges = c.fill_tables.ensures.edges ∙ ap (λ (v : Reading). filled v.edges c.args.edges.now) e;

@@ -4,20 +4,20 @@ use Rattle.sheet.specs.declared.line.Record.TheVariants as rec
 use Rattle.sheet.proofs.Walks.{here, final_ends, final_bad, final_edge, final_entry, final_more, final_end, reached_edge, reached_entry}
 use Rattle.sheet.proofs.read.fill_tables.Goals as goal
 
-pub returns-in-err-end : goal.returns-in-err-end
-returns-in-err-end c =
+pub returns-in_err-end : goal.returns-in_err-end
+returns-in_err-end c =
     let p = err_from_is_err_and c.from-residual.result c.from-residual.ensures.1 in
-    let f = final_ends _ _ _ _ _ _ _ _ _ _ _ c.loop-end.invariant c.in-err-end.ensures.cases.1 in
-    record { answer = rw (p.1, p.2) (ap Err c.in-err-end.ensures.cases.0 ∙ f.answer); edges = f.edges; entries = f.entries }
+    let f = final_ends _ _ _ _ _ _ _ _ _ _ _ c.loop-end.invariant c.in_err-end.ensures.cases.1 in
+    record { answer = rw (p.1, p.2) (ap Err c.in_err-end.ensures.cases.0 ∙ f.answer); edges = f.edges; entries = f.entries }
 
-pub returns-in-err-edge : goal.returns-in-err-edge
-returns-in-err-edge c =
-    let p = err_from_is_err_and c.from-residual-in-err-edge.result c.from-residual-in-err-edge.ensures.1 in
+pub returns-in_err-edge : goal.returns-in_err-edge
+returns-in_err-edge c =
+    let p = err_from_is_err_and c.from-residual-in_err-edge.result c.from-residual-in_err-edge.ensures.1 in
     let r = c.loop-end.invariant in
     let e = length c.args.edges.now - c.loop-end.w in
     let k = length c.args.entries.now - c.loop-end.k in
-    let x = here c.args.text.now c.args.header c.loop-end.due c.loop-end.place e k c.in-ok-end.end c.below-next.result c.below-next.ensures.line c.below-next.ensures.byte c.in-ok-end.ensures.cases in
-    let f = final_bad _ _ _ _ _ _ _ _ _ _ _ r _ _ _ x _ c.in-err-edge.ensures in
+    let x = here c.args.text.now c.args.header c.loop-end.due c.loop-end.place e k c.in_ok-end.end c.below-next.result c.below-next.ensures.line c.below-next.ensures.byte c.in_ok-end.ensures.cases in
+    let f = final_bad _ _ _ _ _ _ _ _ _ _ _ r _ _ _ x _ c.in_err-edge.ensures in
     record { answer = rw (p.1, p.2) f.answer; edges = f.edges; entries = f.entries }
 
 pub returns-then-w-edges : goal.returns-then-w-edges
@@ -25,8 +25,8 @@ returns-then-w-edges c =
     let r = c.loop-end.invariant in
     let e = length c.args.edges.now - c.loop-end.w in
     let k = length c.args.entries.now - c.loop-end.k in
-    let x = here c.args.text.now c.args.header c.loop-end.due c.loop-end.place e k c.in-ok-end.end c.below-next.result c.below-next.ensures.line c.below-next.ensures.byte c.in-ok-end.ensures.cases in
-    let f = final_edge _ _ _ _ _ _ _ _ _ _ _ r _ _ _ x c.in-Edge.edge (ap Ok (sym c.in-Edge.is) ∙ c.in-ok-edge.ensures) c.if-w-edges.true in
+    let x = here c.args.text.now c.args.header c.loop-end.due c.loop-end.place e k c.in_ok-end.end c.below-next.result c.below-next.ensures.line c.below-next.ensures.byte c.in_ok-end.ensures.cases in
+    let f = final_edge _ _ _ _ _ _ _ _ _ _ _ r _ _ _ x c.in-Edge.edge (ap Ok (sym c.in-Edge.is) ∙ c.in_ok-edge.ensures) c.if-w-edges.true in
     record { answer = f.answer; edges = f.edges; entries = f.entries }
 
 pub returns-then-k-entries : goal.returns-then-k-entries
@@ -34,8 +34,8 @@ returns-then-k-entries c =
     let r = c.loop-end.invariant in
     let e = length c.args.edges.now - c.loop-end.w in
     let k = length c.args.entries.now - c.loop-end.k in
-    let x = here c.args.text.now c.args.header c.loop-end.due c.loop-end.place e k c.in-ok-end.end c.below-next.result c.below-next.ensures.line c.below-next.ensures.byte c.in-ok-end.ensures.cases in
-    let f = final_entry _ _ _ _ _ _ _ _ _ _ _ r _ _ _ x c.in-Entry.entry (ap Ok (sym c.in-Entry.is) ∙ c.in-ok-edge.ensures) c.if-k-entries.true in
+    let x = here c.args.text.now c.args.header c.loop-end.due c.loop-end.place e k c.in_ok-end.end c.below-next.result c.below-next.ensures.line c.below-next.ensures.byte c.in_ok-end.ensures.cases in
+    let f = final_entry _ _ _ _ _ _ _ _ _ _ _ r _ _ _ x c.in-Entry.entry (ap Ok (sym c.in-Entry.is) ∙ c.in_ok-edge.ensures) c.if-k-entries.true in
     record { answer = f.answer; edges = f.edges; entries = f.entries }
 
 pub returns-then-next-text : goal.returns-then-next-text
@@ -43,8 +43,8 @@ returns-then-next-text c =
     let r = c.loop-end.invariant in
     let e = length c.args.edges.now - c.loop-end.w in
     let k = length c.args.entries.now - c.loop-end.k in
-    let x = here c.args.text.now c.args.header c.loop-end.due c.loop-end.place e k c.in-ok-end.end c.below-next.result c.below-next.ensures.line c.below-next.ensures.byte c.in-ok-end.ensures.cases in
-    let f = final_more _ _ _ _ _ _ _ _ _ _ _ r _ _ _ x (ap Ok (sym c.in-End.is) ∙ c.in-ok-edge.ensures) c.if-next-text.true in
+    let x = here c.args.text.now c.args.header c.loop-end.due c.loop-end.place e k c.in_ok-end.end c.below-next.result c.below-next.ensures.line c.below-next.ensures.byte c.in_ok-end.ensures.cases in
+    let f = final_more _ _ _ _ _ _ _ _ _ _ _ r _ _ _ x (ap Ok (sym c.in-End.is) ∙ c.in_ok-edge.ensures) c.if-next-text.true in
     record { answer = f.answer; edges = f.edges; entries = f.entries }
 
 pub returns-in-End : goal.returns-in-End
@@ -52,8 +52,8 @@ returns-in-End c =
     let r = c.loop-end.invariant in
     let e = length c.args.edges.now - c.loop-end.w in
     let k = length c.args.entries.now - c.loop-end.k in
-    let x = here c.args.text.now c.args.header c.loop-end.due c.loop-end.place e k c.in-ok-end.end c.below-next.result c.below-next.ensures.line c.below-next.ensures.byte c.in-ok-end.ensures.cases in
-    let f = final_end _ _ _ _ _ _ _ _ _ _ _ r _ _ _ x (ap Ok (sym c.in-End.is) ∙ c.in-ok-edge.ensures) c.if-next-text.false in
+    let x = here c.args.text.now c.args.header c.loop-end.due c.loop-end.place e k c.in_ok-end.end c.below-next.result c.below-next.ensures.line c.below-next.ensures.byte c.in_ok-end.ensures.cases in
+    let f = final_end _ _ _ _ _ _ _ _ _ _ _ r _ _ _ x (ap Ok (sym c.in-End.is) ∙ c.in_ok-edge.ensures) c.if-next-text.false in
     record { answer = f.answer; edges = f.edges; entries = f.entries }
 
 pub loop-end-preserved-else-w-edges : goal.loop-end-preserved-else-w-edges
@@ -61,13 +61,13 @@ loop-end-preserved-else-w-edges c =
     let r = c.loop-end.invariant in
     let e = length c.args.edges.now - c.loop-end.w in
     let k = length c.args.entries.now - c.loop-end.k in
-    let x = here c.args.text.now c.args.header c.loop-end.due c.loop-end.place e k c.in-ok-end.end c.below-next.result c.below-next.ensures.line c.below-next.ensures.byte c.in-ok-end.ensures.cases in
-    reached_edge _ _ _ _ _ _ _ _ _ _ _ r _ _ _ x c.in-Edge.edge (ap Ok (sym c.in-Edge.is) ∙ c.in-ok-edge.ensures) c.if-w-edges.false
+    let x = here c.args.text.now c.args.header c.loop-end.due c.loop-end.place e k c.in_ok-end.end c.below-next.result c.below-next.ensures.line c.below-next.ensures.byte c.in_ok-end.ensures.cases in
+    reached_edge _ _ _ _ _ _ _ _ _ _ _ r _ _ _ x c.in-Edge.edge (ap Ok (sym c.in-Edge.is) ∙ c.in_ok-edge.ensures) c.if-w-edges.false
 
 pub loop-end-preserved : goal.loop-end-preserved
 loop-end-preserved c =
     let r = c.loop-end.invariant in
     let e = length c.args.edges.now - c.loop-end.w in
     let k = length c.args.entries.now - c.loop-end.k in
-    let x = here c.args.text.now c.args.header c.loop-end.due c.loop-end.place e k c.in-ok-end.end c.below-next.result c.below-next.ensures.line c.below-next.ensures.byte c.in-ok-end.ensures.cases in
-    reached_entry _ _ _ _ _ _ _ _ _ _ _ r _ _ _ x c.in-Entry.entry (ap Ok (sym c.in-Entry.is) ∙ c.in-ok-edge.ensures) c.if-k-entries.false
+    let x = here c.args.text.now c.args.header c.loop-end.due c.loop-end.place e k c.in_ok-end.end c.below-next.result c.below-next.ensures.line c.below-next.ensures.byte c.in_ok-end.ensures.cases in
+    reached_entry _ _ _ _ _ _ _ _ _ _ _ r _ _ _ x c.in-Entry.entry (ap Ok (sym c.in-Entry.is) ∙ c.in_ok-edge.ensures) c.if-k-entries.false

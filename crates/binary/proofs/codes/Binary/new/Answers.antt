@@ -26,8 +26,8 @@ granted p m = go (ltb p 1) (ltb 6 p) (has_degree m p) (reducible p m) refl refl 
     go false false true true ev ew ed er e = let z : ◌≡◌ {A = ℕ} 0 1 = cc in absurd (omega arith)
     go false false true false ev ew ed er e = rw (le-leb 1 p (ltb-false p 1 ev), le-leb p 6 (ltb-false 6 p ew), ed, er)
 
-pub invariant-of-tabled : goal.invariant-of-tabled
-invariant-of-tabled c =
+pub invariant_of-tabled : goal.invariant_of-tabled
+invariant_of-tabled c =
     let p : ℕ = c.args.p in
     let g = granted p c.args.polynomial c.in-None.ensures in
     (g, (one_shl p 8 (omega (arith, (made_of p c.args.polynomial g).high)), tt))

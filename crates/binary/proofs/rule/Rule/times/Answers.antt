@@ -10,8 +10,8 @@ use Rattle.binary.proofs.rule.Rule.times.Goals.{then-powers-i-eq1, else-powers-i
 pub loop-i-init : goal.loop-i-init
 loop-i-init c = let s = c.args.self.now in added_none s.p s.polynomial c.args.a c.args.b c.requires.left
 
-pub overflow-shr-powers : goal.overflow-shr-powers
-overflow-shr-powers c = let s = c.args.self.now in let h = (made_of s.p s.polynomial s.admitted).high in omega arith
+pub overflow_shr-powers : goal.overflow_shr-powers
+overflow_shr-powers c = let s = c.args.self.now in let h = (made_of s.p s.polynomial s.admitted).high in omega arith
 
 pub doubled-shifted-requires : goal.doubled-shifted-requires
 doubled-shifted-requires c =
@@ -43,8 +43,8 @@ returns c =
     (made_of s.p s.polynomial s.admitted).degree c.requires.left c.requires.right
     (subst (λ (n : ℕ). Added s.p s.polynomial c.args.a c.args.b n c.loop-i.product c.loop-i.shifted) e c.loop-i.invariant)
 
-pub overflow-cast-result : goal.overflow-cast-result
-overflow-cast-result c =
+pub overflow_cast-result : goal.overflow_cast-result
+overflow_cast-result c =
     let s = c.args.self.now in
     let q = (made_of s.p s.polynomial s.admitted).order in
     let h = c.loop-i.invariant.sum in

@@ -10,9 +10,9 @@ out_of_range q (inr h) = rw (le-ltb q 2 h.0, lt-ltb 64 q h.1)
 in_range_is : (q : ℕ) (b : Bool) → 2 ≤ q → q ≤ 64 → b ≡ is_prime q → cond b (Ok q) (Err 2) ≡ prime_answer q
 in_range_is q b lo hi e = rw (le-ltb q 2 lo, le-ltb 64 q hi, ← e)
 
-pub invariant-of-result : goal.invariant-of-result
+pub invariant_of-result : goal.invariant_of-result
 unfolding is_prime
-invariant-of-result c = (sym c.if-listed.ensures, (omega arith, tt))
+invariant_of-result c = (sym c.if-listed.ensures, (omega arith, tt))
 
 pub returns-then-q-lt2 : goal.returns-then-q-lt2
 returns-then-q-lt2 c = record { answer = out_of_range c.args.q c.then-q-lt2.either; law = primes_listed }

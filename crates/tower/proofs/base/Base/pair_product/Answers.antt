@@ -4,11 +4,11 @@ use Rattle.tower.specs.Refusal.{square_small}
 use Rattle.tower.specs.Laws.{pack_lt}
 use Rattle.tower.proofs.base.Base.pair_product.Goals as goal
 
-pub overflow-mul-r : goal.overflow-mul-r
-overflow-mul-r c = let s = c.args.self.now in omega (arith, square_small s.r s.small)
+pub overflow_mul-r : goal.overflow_mul-r
+overflow_mul-r c = let s = c.args.self.now in omega (arith, square_small s.r s.small)
 
-pub overflow-mul-r-then-a-r : goal.overflow-mul-r-then-a-r
-overflow-mul-r-then-a-r c = let s = c.args.self.now in omega (arith, square_small s.r s.small)
+pub overflow_mul-r-then-a-r : goal.overflow_mul-r-then-a-r
+overflow_mul-r-then-a-r c = let s = c.args.self.now in omega (arith, square_small s.r s.small)
 
 pub low-requires : goal.low-requires
 low-requires c =
@@ -36,8 +36,8 @@ high-requires c =
       ),
     )
 
-pub overflow-mul-result : goal.overflow-mul-result
-overflow-mul-result c = let s = c.args.self.now in omega (arith, pack_lt s.r c.low.result c.high.result c.low.ensures.code c.high.ensures.code, square_small s.r s.small)
+pub overflow_mul-result : goal.overflow_mul-result
+overflow_mul-result c = let s = c.args.self.now in omega (arith, pack_lt s.r c.low.result c.high.result c.low.ensures.code c.high.ensures.code, square_small s.r s.small)
 
-pub overflow-add-result : goal.overflow-add-result
-overflow-add-result c = let s = c.args.self.now in omega (arith, pack_lt s.r c.low.result c.high.result c.low.ensures.code c.high.ensures.code, square_small s.r s.small)
+pub overflow_add-result : goal.overflow_add-result
+overflow_add-result c = let s = c.args.self.now in omega (arith, pack_lt s.r c.low.result c.high.result c.low.ensures.code c.high.ensures.code, square_small s.r s.small)

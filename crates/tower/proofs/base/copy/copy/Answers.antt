@@ -8,8 +8,8 @@ use Rattle.tower.proofs.base.copy.copy.Goals as goal
 laws_of : (t : Tables) (r : ℕ) (s p : List ℕ) → r ≡ t.order → s ≡ grid 8 t.order t.sum → p ≡ grid 8 t.order t.product → t.order ≤ 8 → Lawful t → Lawful (copied r s p)
 laws_of t r s p er es ep fit l = rw (er, es, ep) (copies_lawful t fit l)
 
-pub invariant-of-result : goal.invariant-of-result
-invariant-of-result g c =
+pub invariant_of-result : goal.invariant_of-result
+invariant_of-result g c =
     let t = g.F.Field.meaning c.args.field.now in
     let l = g.met.F.Field.lawful c.args.field.now in (
       omega arith,

@@ -4,8 +4,8 @@ use Rattle.field.specs.Grids.{grid}
 use Rattle.tower.specs.Towers.{has_root}
 use Rattle.tower.proofs.base.copy.two.Goals as goal
 
-pub invariant-of-result : goal.invariant-of-result
-invariant-of-result c = (lit≤ tt, (∣ checked _ refl ∣₁, tt))
+pub invariant_of-result : goal.invariant_of-result
+invariant_of-result c = (lit≤ tt, (∣ checked _ refl ∣₁, tt))
 
 pub returns : goal.returns
 unfolding grid has_root

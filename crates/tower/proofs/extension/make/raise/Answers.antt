@@ -5,8 +5,8 @@ use Rattle.tower.specs.Refusal.{square_small}
 use Rattle.tower.proofs.Solved.{solutions_same}
 use Rattle.tower.proofs.extension.make.raise.Goals as goal
 
-pub overflow-mul-q : goal.overflow-mul-q
-overflow-mul-q c = omega (arith, square_small c.args.base.r c.args.base.small)
+pub overflow_mul-q : goal.overflow_mul-q
+overflow_mul-q c = omega (arith, square_small c.args.base.r c.args.base.small)
 
 pub solve_all-opposites-requires : goal.solve_all-opposites-requires
 solve_all-opposites-requires c = square_small c.args.base.r c.args.base.small
@@ -14,8 +14,8 @@ solve_all-opposites-requires c = square_small c.args.base.r c.args.base.small
 pub solve-all_inverses-requires : goal.solve-all_inverses-requires
 solve-all_inverses-requires c = square_small c.args.base.r c.args.base.small
 
-pub invariant-of-result : goal.invariant-of-result
-invariant-of-result c =
+pub invariant_of-result : goal.invariant_of-result
+invariant_of-result c =
     let b = c.args.base in
     let fit = square_small b.r b.small in (
       refl,
