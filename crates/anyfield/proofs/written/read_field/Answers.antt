@@ -22,7 +22,7 @@ returns-in_default c =
 
 pub returns-in_err-base : goal.returns-in_err-base
 returns-in_err-base c =
-    let p = err_from_is_err_and c.from-residual.result c.from-residual.ensures.1 in
+    let p = err_from_is_err_and c.from_residual.result c.from_residual.ensures.1 in
     let n = c.towers_in_front-towers.result.0 in
     let ps = pieces_of c.towers_in_front-towers.new.parts in
     record {

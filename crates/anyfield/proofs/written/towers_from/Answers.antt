@@ -8,7 +8,7 @@ use Rattle.anyfield.proofs.written.towers_from.Goals as goal
 
 pub returns-in_err-field : goal.returns-in_err-field
 returns-in_err-field c =
-    let p = err_from_is_err_and c.from-residual.result c.from-residual.ensures.1 in
+    let p = err_from_is_err_and c.from_residual.result c.from_residual.ensures.1 in
     let k = c.args.towers - (c.loop-level.-level + 1) in
     rw (p.1, p.2) (sym (raises_fault k _) ∙ ap (raises k) c.in_err-field.ensures ∙ sym (raises_less c.args.towers c.loop-level.-level _ c.loop-level-test.true) ∙ c.loop-level.invariant)
 

@@ -21,7 +21,7 @@ returns-in_err-open g c = record {
   answer = result ∙ sym stops;
   word = sym (ap (λ (a : Answer). cond (granted a) (the_word (g.F.Field.meaning c.args.field.now) (check_matrix c.args.code.now) c.args.symbols.now) c.args.word.now) stops);
   scratch = λ e. refl;
-  law = encoding_refused (g.F.Field.meaning c.args.field.now) (check_matrix c.args.code.now) c.args.symbols.now c.args.word.now c.from-residual.result c.in_err-open.field-0.0 result
+  law = encoding_refused (g.F.Field.meaning c.args.field.now) (check_matrix c.args.code.now) c.args.symbols.now c.args.word.now c.from_residual.result c.in_err-open.field-0.0 result
       (early (not (eqb (g.F.Field.meaning c.args.field.now).order c.args.code.now.header.order)) (ltb (length c.args.scratch.now) (c.args.code.now.header.rows * c.args.code.now.header.columns))
       (not (eqb (length c.args.symbols.now) (information_length c.args.code.now))) (not (eqb (length c.args.word.now) c.args.code.now.header.columns))
       (not (are_codes (g.F.Field.meaning c.args.field.now).order c.args.symbols.now)) c.in_err-open.field-0.0 refusal);
@@ -33,8 +33,8 @@ returns-in_err-open g c = record {
     refusal : opening (g.F.Field.meaning c.args.field.now) c.args.code.now (length c.args.symbols.now) (length c.args.scratch.now) (length c.args.word.now) c.args.symbols.now (Ok tt) ≡ Err c.in_err-open.field-0.0
     refusal = sym c.in_err-open.ensures
 
-    result : c.from-residual.result ≡ Err c.in_err-open.field-0.0
-    result = let p = err_from_is_err_and c.from-residual.result c.from-residual.ensures.1 in p.1 ∙ ap Err p.2
+    result : c.from_residual.result ≡ Err c.in_err-open.field-0.0
+    result = let p = err_from_is_err_and c.from_residual.result c.from_residual.ensures.1 in p.1 ∙ ap Err p.2
 
     stops : opening (g.F.Field.meaning c.args.field.now) c.args.code.now (length c.args.symbols.now) (length c.args.scratch.now) (length c.args.word.now) c.args.symbols.now
         (refuse (dependent (g.F.Field.meaning c.args.field.now) (check_matrix c.args.code.now)) Dependent (Ok tt)) ≡ Err c.in_err-open.field-0.0

@@ -16,7 +16,7 @@ header_from-requires c =
 pub returns-in_err-kind_due : goal.returns-in_err-kind_due
 unfolding header_line
 returns-in_err-kind_due c =
-    let p = err_from_is_err_and c.from-residual.result c.from-residual.ensures.1 in
+    let p = err_from_is_err_and c.from_residual.result c.from_residual.ensures.1 in
     record { answer = rw (p.1, p.2) (out _ c.in_err-kind_due.ensures); small = rw p.1 tt }
 
 pub returns : goal.returns

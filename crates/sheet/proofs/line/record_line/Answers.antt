@@ -9,7 +9,7 @@ use Rattle.sheet.proofs.line.record_line.Goals as goal
 pub returns-in_err-kind_due : goal.returns-in_err-kind_due
 unfolding record_line
 returns-in_err-kind_due c =
-    let p = err_from_is_err_and c.from-residual.result c.from-residual.ensures.1 in
+    let p = err_from_is_err_and c.from_residual.result c.from_residual.ensures.1 in
     rw (p.1, p.2) (out _ c.in_err-kind_due.ensures)
 
 pub edge_from-requires : goal.edge_from-requires
@@ -27,13 +27,13 @@ entry_from-requires c =
 pub returns-in_err-edge_from : goal.returns-in_err-edge_from
 unfolding record_line
 returns-in_err-edge_from c =
-    let p = err_from_is_err_and c.from-residual-in_err-edge_from.result c.from-residual-in_err-edge_from.ensures.1 in
+    let p = err_from_is_err_and c.from_residual-in_err-edge_from.result c.from_residual-in_err-edge_from.ensures.1 in
     rw (p.1, p.2) (on _ (ap Ok (sym c.in-Edge.is) ∙ c.in_ok-kind_due.ensures) (out _ c.in_err-edge_from.ensures))
 
 pub returns-in_err-entry_from : goal.returns-in_err-entry_from
 unfolding record_line
 returns-in_err-entry_from c =
-    let p = err_from_is_err_and c.from-residual-in_err-entry_from.result c.from-residual-in_err-entry_from.ensures.1 in
+    let p = err_from_is_err_and c.from_residual-in_err-entry_from.result c.from_residual-in_err-entry_from.ensures.1 in
     rw (p.1, p.2) (on _ (ap Ok (sym c.in-Entry.is) ∙ c.in_ok-kind_due.ensures) (out _ c.in_err-entry_from.ensures))
 
 pub returns-in-Header : goal.returns-in-Header

@@ -6,13 +6,13 @@ use Rattle.sheet.proofs.read.fill.Goals as goal
 
 pub returns-in_err-end : goal.returns-in_err-end
 returns-in_err-end c =
-    let p = err_from_is_err_and c.from-residual.result c.from-residual.ensures.1 in
+    let p = err_from_is_err_and c.from_residual.result c.from_residual.ensures.1 in
     let e = sym (reading_ends c.args.text.now (length c.args.edges.now) (length c.args.entries.now) c.in_err-end.ensures.cases.1) in
     record { answer = rw (p.1, p.2) (ap Err c.in_err-end.ensures.cases.0 ∙ ap filled_of e); edges = ap (λ (v : Reading). filled v.edges c.args.edges.now) e; entries = ap (λ (v : Reading). filled v.entries c.args.entries.now) e }
 
 pub returns-in_err-header : goal.returns-in_err-header
 returns-in_err-header c =
-    let p = err_from_is_err_and c.from-residual-in_err-header.result c.from-residual-in_err-header.ensures.1 in
+    let p = err_from_is_err_and c.from_residual-in_err-header.result c.from_residual-in_err-header.ensures.1 in
     let e = sym (reading_bad c.args.text.now (length c.args.edges.now) (length c.args.entries.now) c.in_ok-end.end c.in_ok-end.ensures.cases _ c.in_err-header.ensures.answer) in
     record { answer = rw (p.1, p.2) (ap filled_of e); edges = ap (λ (v : Reading). filled v.edges c.args.edges.now) e; entries = ap (λ (v : Reading). filled v.entries c.args.entries.now) e }
 

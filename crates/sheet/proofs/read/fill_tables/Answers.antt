@@ -6,13 +6,13 @@ use Rattle.sheet.proofs.read.fill_tables.Goals as goal
 
 pub returns-in_err-end : goal.returns-in_err-end
 returns-in_err-end c =
-    let p = err_from_is_err_and c.from-residual.result c.from-residual.ensures.1 in
+    let p = err_from_is_err_and c.from_residual.result c.from_residual.ensures.1 in
     let f = final_ends _ _ _ _ _ _ _ _ _ _ _ c.loop-end.invariant c.in_err-end.ensures.cases.1 in
     record { answer = rw (p.1, p.2) (ap Err c.in_err-end.ensures.cases.0 ∙ f.answer); edges = f.edges; entries = f.entries }
 
 pub returns-in_err-edge : goal.returns-in_err-edge
 returns-in_err-edge c =
-    let p = err_from_is_err_and c.from-residual-in_err-edge.result c.from-residual-in_err-edge.ensures.1 in
+    let p = err_from_is_err_and c.from_residual-in_err-edge.result c.from_residual-in_err-edge.ensures.1 in
     let r = c.loop-end.invariant in
     let e = length c.args.edges.now - c.loop-end.w in
     let k = length c.args.entries.now - c.loop-end.k in

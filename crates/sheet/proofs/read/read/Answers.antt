@@ -7,7 +7,7 @@ use Rattle.sheet.proofs.read.read.Goals as goal
 
 pub returns-in_err-whole : goal.returns-in_err-whole
 returns-in_err-whole c =
-    let p = err_from_is_err_and c.from-residual.result c.from-residual.ensures.1 in
+    let p = err_from_is_err_and c.from_residual.result c.from_residual.ensures.1 in
     let R = reading (length c.args.edges.now) (length c.args.entries.now) c.args.text.now in
     let e = counted_err R.told (length R.edges) (length R.entries) _ c.in_err-whole.ensures.answer in
     record { answer = rw (p.1, p.2) (ap (λ t. judged t R.edges R.entries) e); edges = c.fill.ensures.edges; entries = c.fill.ensures.entries; law = inverts }
