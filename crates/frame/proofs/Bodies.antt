@@ -159,7 +159,7 @@ module _ (F : Tables) (L : Lawful F) (K : View) (orders : F.order ≡ K.header.o
     from_one : (x : ℕ) → x < W → block q (N + N + W + x) a1 ≡ tabled q (from_check_cost F K costs x)
     from_one x h =
         let r : ℕ = row_of K x in
-        let below = A.row-Below x h in
+        let below = A.row_below x h in
         let w = row_two K A r below in
         let u = row_in K A x h in
         let s = same_start r in

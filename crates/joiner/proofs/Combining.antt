@@ -9,6 +9,7 @@ use Rattle.joiner.specs.Joined.{pair_cost, joined_at, joined_of, Reaches}
 use Rattle.joiner.specs.Loops.{lowered, rowed, combined}
 use Rattle.joiner.specs.Members.{In, in_counting, all_codes}
 use Rattle.joiner.proofs.Joining.{joined_under, joined_reached, joined_by}
+use Rattle.std.proofs.lemmas.List.Elements.{All-head, All-tail}
 
 module _ (t : Tables) (laws : Lawful t) (top : ℕ) (left right : List ℕ) where
   -- every entry is the ceiling or reached by a pair
@@ -66,13 +67,13 @@ module _ (t : Tables) (laws : Lawful t) (top : ℕ) (left right : List ℕ) wher
     row_fit : (cs third : List ℕ) → All (λ c. c < t.order) cs → Fit third → Fit (rowed t left right b cs third)
     unfolding rowed
     row_fit [] third h F = F
-    row_fit (c ∷ cs) third h F = row_fit cs (lowered t b c (pair_cost left right b c) third) h.1 (fit_one third F b c hb h.0)
+    row_fit (c ∷ cs) third h F = row_fit cs (lowered t b c (pair_cost left right b c) third) (All-tail (λ x. x < t.order) c cs h) (fit_one third F b c hb (All-head (λ x. x < t.order) c cs h))
 
     row_falls : (cs third : List ℕ) → All (λ c. c < t.order) cs → Fit third → (a : ℕ) → get_or (rowed t left right b cs third) a 0 ≤ get_or third a 0
     unfolding rowed
     row_falls [] third h F a = omega arith
     row_falls (c ∷ cs) third h F a =
-        omega (arith, row_falls cs (lowered t b c (pair_cost left right b c) third) h.1 (fit_one third F b c hb h.0) a, one_falls third F b c hb h.0 a)
+        omega (arith, row_falls cs (lowered t b c (pair_cost left right b c) third) (All-tail (λ x. x < t.order) c cs h) (fit_one third F b c hb (All-head (λ x. x < t.order) c cs h)) a, one_falls third F b c hb (All-head (λ x. x < t.order) c cs h) a)
 
     row_under : (cs third : List ℕ) → All (λ c. c < t.order) cs → Fit third → (c : ℕ) → In cs c → get_or (rowed t left right b cs third) (t.sum b c) 0 ≤ pair_cost left right b c
     unfolding rowed
@@ -80,21 +81,21 @@ module _ (t : Tables) (laws : Lawful t) (top : ℕ) (left right : List ℕ) wher
     row_under (d ∷ cs) third h F c (inl e) =
         let next : List ℕ = lowered t b d (pair_cost left right b d) third in
         subst (λ x. get_or (rowed t left right b cs next) (t.sum b x) 0 ≤ pair_cost left right b x) e
-        (omega (arith, row_falls cs next h.1 (fit_one third F b d hb h.0) (t.sum b d), one_under third F b d hb h.0))
-    row_under (d ∷ cs) third h F c (inr k) = row_under cs (lowered t b d (pair_cost left right b d) third) h.1 (fit_one third F b d hb h.0) c k
+        (omega (arith, row_falls cs next (All-tail (λ x. x < t.order) d cs h) (fit_one third F b d hb (All-head (λ x. x < t.order) d cs h)) (t.sum b d), one_under third F b d hb (All-head (λ x. x < t.order) d cs h)))
+    row_under (d ∷ cs) third h F c (inr k) = row_under cs (lowered t b d (pair_cost left right b d) third) (All-tail (λ x. x < t.order) d cs h) (fit_one third F b d hb (All-head (λ x. x < t.order) d cs h)) c k
 
   -- ---- the pairs of some left with some right codes
   module _ (cs : List ℕ) (hcs : All (λ c. c < t.order) cs) where
     pub fit : (bs third : List ℕ) → All (λ b. b < t.order) bs → Fit third → Fit (combined t left right bs cs third)
     unfolding combined
     fit [] third h F = F
-    fit (b ∷ bs) third h F = fit bs (rowed t left right b cs third) h.1 (row_fit b h.0 cs third hcs F)
+    fit (b ∷ bs) third h F = fit bs (rowed t left right b cs third) (All-tail (λ x. x < t.order) b bs h) (row_fit b (All-head (λ x. x < t.order) b bs h) cs third hcs F)
 
     falls : (bs third : List ℕ) → All (λ b. b < t.order) bs → Fit third → (a : ℕ) → get_or (combined t left right bs cs third) a 0 ≤ get_or third a 0
     unfolding combined
     falls [] third h F a = omega arith
     falls (b ∷ bs) third h F a =
-        omega (arith, falls bs (rowed t left right b cs third) h.1 (row_fit b h.0 cs third hcs F) a, row_falls b h.0 cs third hcs F a)
+        omega (arith, falls bs (rowed t left right b cs third) (All-tail (λ x. x < t.order) b bs h) (row_fit b (All-head (λ x. x < t.order) b bs h) cs third hcs F) a, row_falls b (All-head (λ x. x < t.order) b bs h) cs third hcs F a)
 
     pub under : (bs third : List ℕ) → All (λ b. b < t.order) bs → Fit third → (b c : ℕ) → In bs b → In cs c → get_or (combined t left right bs cs third) (t.sum b c) 0 ≤ pair_cost left right b c
     unfolding combined
@@ -102,8 +103,8 @@ module _ (t : Tables) (laws : Lawful t) (top : ℕ) (left right : List ℕ) wher
     under (d ∷ bs) third h F b c (inl e) m =
         let next : List ℕ = rowed t left right d cs third in
         subst (λ x. get_or (combined t left right bs cs next) (t.sum x c) 0 ≤ pair_cost left right x c) e
-        (omega (arith, falls bs next h.1 (row_fit d h.0 cs third hcs F) (t.sum d c), row_under d h.0 cs third hcs F c m))
-    under (d ∷ bs) third h F b c (inr k) m = under bs (rowed t left right d cs third) h.1 (row_fit d h.0 cs third hcs F) b c k m
+        (omega (arith, falls bs next (All-tail (λ x. x < t.order) d bs h) (row_fit d (All-head (λ x. x < t.order) d bs h) cs third hcs F) (t.sum d c), row_under d (All-head (λ x. x < t.order) d bs h) cs third hcs F c m))
+    under (d ∷ bs) third h F b c (inr k) m = under bs (rowed t left right d cs third) (All-tail (λ x. x < t.order) d bs h) (row_fit d (All-head (λ x. x < t.order) d bs h) cs third hcs F) b c k m
 
   -- ---- what comes of it
   module _ (hl : Low top left) (hr : Low top right) where

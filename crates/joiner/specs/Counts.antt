@@ -5,7 +5,7 @@ use Rattle.std.proofs.Common.{ap₂, subst, ◌∙◌, add-one}
 use Rattle.std.proofs.Math.Logic.{inl, inr}
 use native.Mathlib.Omega.{arith}
 use Rattle.std.proofs.Math.Nat.{sub-zero}
-use Rattle.std.proofs.lemmas.List.Elements.{All-push, All-weaker, All-get_or}
+use Rattle.std.proofs.lemmas.List.Elements.{All-nil, All-push, All-weaker, All-get_or}
 use Rattle.std.proofs.lemmas.List.{append-nil, get_or-set_same, get_or-set_other, length_push, take_more_set, take-set}
 use Rattle.std.proofs.lemmas.Bool.{cases_eq, cases_lt, eq-eqb, ne_eqb, le-leb, lt-leb, leb-true, leb-false, cond_both}
 use Rattle.joiner.specs.Level.{count, is_chosen, chosen, first_from, level_of, IsLevel}
@@ -49,7 +49,7 @@ length_listed test (suc n) = go (test n) (length_listed test n)
 
 pub all_listed : (test : ℕ → Bool) (n : ℕ) → All (λ a. a < n) (listed test n)
 unfolding listed
-all_listed test zero = tt
+all_listed test zero = All-nil (λ a. a < 0)
 all_listed test (suc n) = go (test n) (All-weaker (λ a. a < n) (λ a. a < suc n) (λ a h. omega arith) (listed test n) (all_listed test n))
   where
     go : (v : Bool) → All (λ a. a < suc n) (listed test n) → All (λ a. a < suc n) (listed test n ++ cond v (n ∷ []) [])

@@ -2,7 +2,7 @@
 use Rattle.std.specs.Prelude.{◌≡◌, ℕ, zero, suc, ◌+◌, ◌-◌, ◌<◌, ◌≤◌, min, Bool, true, false, cond, ◌⊎◌, List, [], ◌∷◌, ◌++◌, map, length, All, filter, ◌≢◌, refl}
 use Rattle.std.proofs.Common.{sym, ap, subst, ◌∙◌, inl, inr, arith}
 use Rattle.std.specs.List.{range_with_len, flat_map as concatenated}
-use Rattle.std.proofs.lemmas.List.Elements.{All-append}
+use Rattle.std.proofs.lemmas.List.Elements.{All-append, All-cons, All-head, All-nil, All-tail}
 use Rattle.std.proofs.lemmas.Bool.{cases_lt, cases_eq}
 use Rattle.joiner.specs.Joined.{least_of, least}
 
@@ -57,8 +57,10 @@ in_some (y ∷ xs) x h = omega arith
 
 -- ---- what holds of each
 pub all_counting : (n i : ℕ) → All (λ k. k < i + n) (range_with_len i n)
-all_counting zero i = tt
-all_counting (suc n) i = (omega arith, subst (λ m. All (λ k. k < m) (range_with_len (i + 1) n)) (let e : i + 1 + n ≡ i + suc n = omega arith in e) (all_counting n (i + 1)))
+all_counting zero i = All-nil (λ k. k < i + 0)
+all_counting (suc n) i =
+    All-cons (λ k. k < i + suc n) i (range_with_len (i + 1) n) (omega arith)
+    (subst (λ m. All (λ k. k < m) (range_with_len (i + 1) n)) (let e : i + 1 + n ≡ i + suc n = omega arith in e) (all_counting n (i + 1)))
 
 pub all_codes : (n : ℕ) → All (λ k. k < n) (range_with_len 0 n)
 all_codes n = subst (λ m. All (λ k. k < m) (range_with_len 0 n)) (let e : 0 + n ≡ n = omega arith in e) (all_counting n 0)
@@ -71,20 +73,20 @@ pub at_counting_all : {Y : Type 0} (F : List ℕ → Y) (n i : ℕ) → n ≤ i 
 at_counting_all F n i h = ap (λ m. F (range_with_len i m)) (let e : n - i ≡ 0 = omega arith in e)
 
 pub all_concatenated : {X Y : Type 0} (P : Y → Type 0) (f : X → List Y) (xs : List X) → All (λ x. All P (f x)) xs → All P (concatenated f xs)
-all_concatenated P f [] h = tt
-all_concatenated P f (x ∷ xs) h = All-append P (f x) (concatenated f xs) h.0 (all_concatenated P f xs h.1)
+all_concatenated P f [] h = All-nil P
+all_concatenated P f (x ∷ xs) h = All-append P (f x) (concatenated f xs) (All-head (λ y. All P (f y)) x xs h) (all_concatenated P f xs (All-tail (λ y. All P (f y)) x xs h))
 
 pub all_kept : {X : Type 0} (p : X → Bool) (P Q : X → Type 0) → ((x : X) → P x → p x ≡ true → Q x) → (xs : List X) → All P xs → All Q (filter p xs)
-all_kept p P Q f [] h = tt
-all_kept p P Q f (x ∷ xs) h = go (p x) refl (all_kept p P Q f xs h.1)
+all_kept p P Q f [] h = All-nil Q
+all_kept p P Q f (x ∷ xs) h = go (p x) refl (all_kept p P Q f xs (All-tail P x xs h))
   where
     go : (v : Bool) → p x ≡ v → All Q (filter p xs) → All Q (cond v (x ∷ filter p xs) (filter p xs))
-    go true e rec = (f x h.0 e, rec)
+    go true e rec = All-cons Q x (filter p xs) (f x (All-head P x xs h) e) rec
     go false e rec = rec
 
 pub all_in : {X : Type 0} (P : X → Type 0) (xs : List X) → ((x : X) → In xs x → P x) → All P xs
-all_in P [] h = tt
-all_in P (x ∷ xs) h = (h x (inl refl), all_in P xs (λ y k. h y (inr k)))
+all_in P [] h = All-nil P
+all_in P (x ∷ xs) h = All-cons P x xs (h x (inl refl)) (all_in P xs (λ y k. h y (inr k)))
 
 -- ---- the least
 min_is : (P : ℕ → Type 0) (x y : ℕ) → P x → P y → P (min x y)
@@ -97,7 +99,7 @@ min_is P x y hx hy = go (cases_lt x y)
 least_of_is : (P : ℕ → Type 0) (x : ℕ) (xs : List ℕ) → P x → All P xs → P (least_of x xs)
 unfolding least_of
 least_of_is P x [] h k = h
-least_of_is P x (y ∷ ys) h k = min_is P x (least_of y ys) h (least_of_is P y ys k.0 k.1)
+least_of_is P x (y ∷ ys) h k = min_is P x (least_of y ys) h (least_of_is P y ys (All-head P y ys k) (All-tail P y ys k))
 
 least_of_under : (x : ℕ) (xs : List ℕ) (v : ℕ) → (x ≡ v) ⊎ In xs v → least_of x xs ≤ v
 unfolding least_of
@@ -110,7 +112,7 @@ least_of_under x (y ∷ ys) v (inr h) = omega (arith, least_of_under y ys v h)
 pub least_is : (P : ℕ → Type 0) (xs : List ℕ) → 0 < length xs → All P xs → P (least xs)
 unfolding least
 least_is P [] some h = absurd (let z : ⊥ = omega arith in z)
-least_is P (x ∷ xs) some h = least_of_is P x xs h.0 h.1
+least_is P (x ∷ xs) some h = least_of_is P x xs (All-head P x xs h) (All-tail P x xs h)
 
 -- and none is below it
 pub least_under : (xs : List ℕ) (v : ℕ) → In xs v → least xs ≤ v

@@ -190,7 +190,7 @@ module _ (F : Tables) (K : View) (L : Laws F K.header.order) where
       unfolding others
       another e h =
           counted (width K) (others K e)
-          (omega (arith, A.row_low (row_of K e) (A.row-Below e h), count_others (width K) (λ x. eqb (row_of K x) (row_of K e)) e))
+          (omega (arith, A.row_low (row_of K e) (A.row_below e h), count_others (width K) (λ x. eqb (row_of K x) (row_of K e)) e))
 
       -- the from-check cost is the least, over symbols for the row's other edges that satisfy the check with a, of the greatest of their costs
       pub from_hit : Within K costs → (e a : ℕ) → e < width K → a < K.header.order →

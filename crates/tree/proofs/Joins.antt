@@ -295,7 +295,7 @@ module _ (F : Tables) (K : View) (L : Laws F K.header.order) (A : Facts K) (cost
     tells_back zero x e h =
         let s : last ≡ x = omega arith in
         subst (λ y. Tells (between y last) (back y)) s
-        (subst (λ v. Tells (between last last) v) (sym J.Back-last) (tells_same (λ y. eqb y last) (between last last) (P last) (λ x l. sym (one_test last x)) (tells_P last (omega (arith, J.two)) (omega arith))))
+        (subst (λ v. Tells (between last last) v) (sym J.back_last) (tells_same (λ y. eqb y last) (between last last) (P last) (λ x l. sym (one_test last x)) (tells_P last (omega (arith, J.two)) (omega arith))))
     tells_back (suc m) x e h =
         tells_same (λ y. eqb y x || between (suc x) last y) (between x last) (back x) (λ y l. sym (first_test x last y (omega arith)))
         (tells_join (λ y. eqb y x) (between (suc x) last) (P x) (back (suc x)) (back x) (λ y l p q. apart_first x last y p q)

@@ -24,29 +24,29 @@ entry_from-requires c =
     let b = begins c.args.due c.args.place (fields c.args.line.now) kind.Entry (sym e) in
     record { count = b.count; letter = (one_letter (get_or (fields c.args.line.now) 0 []) kind.Entry b.kind).0; fits = c.requires.fits }
 
-pub returns-in_err-edge_from : goal.returns-in_err-edge_from
+pub returns-in_err-edge_from-in-Edge : goal.returns-in_err-edge_from-in-Edge
 unfolding record_line
-returns-in_err-edge_from c =
-    let p = err_from_is_err_and c.from_residual-in_err-edge_from.result c.from_residual-in_err-edge_from.ensures.1 in
-    rw (p.1, p.2) (on _ (ap Ok (sym c.in-Edge.is) ∙ c.in_ok-kind_due.ensures) (out _ c.in_err-edge_from.ensures))
+returns-in_err-edge_from-in-Edge c =
+    let p = err_from_is_err_and c.from_residual-in_err-edge_from-in-Edge.result c.from_residual-in_err-edge_from-in-Edge.ensures.1 in
+    rw (p.1, p.2) (on _ (ap Ok (sym c.in-Edge.is) ∙ c.in_ok-kind_due.ensures) (out _ c.in_err-edge_from-in-Edge.ensures))
 
-pub returns-in_err-entry_from : goal.returns-in_err-entry_from
+pub returns-in_err-entry_from-in-Entry : goal.returns-in_err-entry_from-in-Entry
 unfolding record_line
-returns-in_err-entry_from c =
-    let p = err_from_is_err_and c.from_residual-in_err-entry_from.result c.from_residual-in_err-entry_from.ensures.1 in
-    rw (p.1, p.2) (on _ (ap Ok (sym c.in-Entry.is) ∙ c.in_ok-kind_due.ensures) (out _ c.in_err-entry_from.ensures))
+returns-in_err-entry_from-in-Entry c =
+    let p = err_from_is_err_and c.from_residual-in_err-entry_from-in-Entry.result c.from_residual-in_err-entry_from-in-Entry.ensures.1 in
+    rw (p.1, p.2) (on _ (ap Ok (sym c.in-Entry.is) ∙ c.in_ok-kind_due.ensures) (out _ c.in_err-entry_from-in-Entry.ensures))
 
 pub returns-in-Header : goal.returns-in-Header
 unfolding record_line
 returns-in-Header c = on _ (ap Ok (sym c.in-Header.is) ∙ c.in_ok-kind_due.ensures) refl
 
-pub returns-in_ok-edge_from : goal.returns-in_ok-edge_from
+pub returns-in_ok-edge_from-in-Edge : goal.returns-in_ok-edge_from-in-Edge
 unfolding record_line
-returns-in_ok-edge_from c = on _ (ap Ok (sym c.in-Edge.is) ∙ c.in_ok-kind_due.ensures) (on _ c.in_ok-edge_from.ensures refl)
+returns-in_ok-edge_from-in-Edge c = on _ (ap Ok (sym c.in-Edge.is) ∙ c.in_ok-kind_due.ensures) (on _ c.in_ok-edge_from-in-Edge.ensures refl)
 
-pub returns-in_ok-entry_from : goal.returns-in_ok-entry_from
+pub returns-in_ok-entry_from-in-Entry : goal.returns-in_ok-entry_from-in-Entry
 unfolding record_line
-returns-in_ok-entry_from c = on _ (ap Ok (sym c.in-Entry.is) ∙ c.in_ok-kind_due.ensures) (on _ c.in_ok-entry_from.ensures refl)
+returns-in_ok-entry_from-in-Entry c = on _ (ap Ok (sym c.in-Entry.is) ∙ c.in_ok-kind_due.ensures) (on _ c.in_ok-entry_from-in-Entry.ensures refl)
 
 pub returns-in-End : goal.returns-in-End
 unfolding record_line

@@ -30,7 +30,7 @@ pub invariant_of-tabled : goal.invariant_of-tabled
 invariant_of-tabled c =
     let p : ℕ = c.args.p in
     let g = granted p c.args.polynomial c.in-None.ensures in
-    (g, (one_shl p 8 (omega (arith, (made_of p c.args.polynomial g).high)), tt))
+    record { admitted = g; sized = one_shl p 8 (omega (arith, (made_of p c.args.polynomial g).high)) }
 
 pub returns-in-None : goal.returns-in-None
 returns-in-None c =

@@ -12,7 +12,7 @@ in_range_is q b lo hi e = rw (le-ltb q 2 lo, le-ltb 64 q hi, ← e)
 
 pub invariant_of-result : goal.invariant_of-result
 unfolding is_prime
-invariant_of-result c = (sym c.if-listed.ensures, (omega arith, tt))
+invariant_of-result c = record { prime = sym c.if-listed.ensures; small = omega arith }
 
 pub returns-then-q-lt2 : goal.returns-then-q-lt2
 returns-then-q-lt2 c = record { answer = out_of_range c.args.q c.then-q-lt2.either; law = primes_listed }

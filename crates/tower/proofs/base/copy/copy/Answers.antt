@@ -11,7 +11,7 @@ laws_of t r s p er es ep fit l = rw (er, es, ep) (copies_lawful t fit l)
 pub invariant_of-result : goal.invariant_of-result
 invariant_of-result g c =
     let t = g.F.Field.meaning c.args.field.now in
-    let l = g.met.F.Field.lawful c.args.field.now in (
-      omega arith,
-      (∣ laws_of t c.order-r.result c.copy_sums-sums.result c.copy_products-products.result c.order-r.ensures c.copy_sums-sums.ensures c.copy_products-products.ensures c.requires l ∣₁, tt),
-    )
+    let l = g.met.F.Field.lawful c.args.field.now in record {
+      small = omega arith;
+      laws = ∣ laws_of t c.order-r.result c.copy_sums-sums.result c.copy_products-products.result c.order-r.ensures c.copy_sums-sums.ensures c.copy_products-products.ensures c.requires l ∣₁;
+    }

@@ -5,7 +5,7 @@ use Rattle.tower.specs.Towers.{has_root}
 use Rattle.tower.proofs.base.copy.two.Goals as goal
 
 pub invariant_of-result : goal.invariant_of-result
-invariant_of-result c = (lit≤ tt, (∣ checked _ refl ∣₁, tt))
+invariant_of-result c = record { small = lit≤ tt; laws = ∣ checked _ refl ∣₁ }
 
 pub returns : goal.returns
 unfolding grid has_root
