@@ -37,7 +37,8 @@ fn scaled(x: f32, scale: f32) -> f32
     ensures finite { sized result ≡ true }
     ensures value { size result ≡ magnitude x (size scale) }
 {
-    x.abs().min(scale)
+    let magnitude = x.abs();
+    if magnitude <= scale { magnitude } else { scale }
 }
 
 pub(crate) fn measured_level(settings: Settings, ceiling: u16, x: f32) -> u16
