@@ -1,4 +1,5 @@
 // One line of the row table: the coefficient of a row's check at a column.
+#[repr(C)]
 #[derive(Clone, Copy)]
 pub struct Edge {
     pub row: u16,
@@ -7,6 +8,7 @@ pub struct Edge {
 }
 
 // One line of the column table: a row that checks the column.
+#[repr(C)]
 #[derive(Clone, Copy)]
 pub struct Entry {
     pub column: u16,

@@ -21,7 +21,7 @@ pairs_below_is : (q : ℕ) → All (λ p. (p.0 < q) × (p.1 < q)) (pairs_below q
 unfolding pairs_below
 pairs_below_is q =
     let within : (b : ℕ) → b < q → All (λ (c : ℕ). (b < q) × (c < q)) (range_with_len 0 q) =
-        λ b hb. All-weaker (λ c. c < q) (λ (c : ℕ). (b < q) × (c < q)) (λ c hc. (hb, hc)) (range_with_len 0 q) (all_codes q) in
+    λ b hb. All-weaker (λ c. c < q) (λ (c : ℕ). (b < q) × (c < q)) (λ c hc. (hb, hc)) (range_with_len 0 q) (all_codes q) in
     all_concatenated (λ p. (p.0 < q) × (p.1 < q)) (λ x. map (λ y. (x, y)) (range_with_len 0 q)) (range_with_len 0 q)
     (All-weaker (λ b. b < q) (λ (b : ℕ). All (λ (p : ℕ × ℕ). (p.0 < q) × (p.1 < q)) (map (λ y. (b, y)) (range_with_len 0 q)))
     (λ b hb. All-map {X = ℕ × ℕ} (λ (p : ℕ × ℕ). (p.0 < q) × (p.1 < q)) (λ y. (b, y)) (range_with_len 0 q) (within b hb)) (range_with_len 0 q) (all_codes q))

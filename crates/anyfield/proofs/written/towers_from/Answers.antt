@@ -9,15 +9,15 @@ use Rattle.anyfield.proofs.written.towers_from.Goals as goal
 pub returns-in_err-field : goal.returns-in_err-field
 returns-in_err-field c =
     let p = err_from_is_err_and c.from_residual.result c.from_residual.ensures.1 in
-    let k = c.args.towers - (c.loop-level.-level + 1) in
-    rw (p.1, p.2) (sym (raises_fault k _) ∙ ap (raises k) c.in_err-field.ensures ∙ sym (raises_less c.args.towers c.loop-level.-level _ c.loop-level-test.true) ∙ c.loop-level.invariant)
+    let k = c.args.towers - (c.loop-level._level + 1) in
+    rw (p.1, p.2) (sym (raises_fault k _) ∙ ap (raises k) c.in_err-field.ensures ∙ sym (raises_less c.args.towers c.loop-level._level _ c.loop-level-test.true) ∙ c.loop-level.invariant)
 
 pub loop-level-preserved : goal.loop-level-preserved
 loop-level-preserved c =
-    ap (raises (c.args.towers - (c.loop-level.-level + 1))) c.in_ok-field.ensures ∙ sym (raises_less c.args.towers c.loop-level.-level _ c.loop-level-test.true) ∙ c.loop-level.invariant
+    ap (raises (c.args.towers - (c.loop-level._level + 1))) c.in_ok-field.ensures ∙ sym (raises_less c.args.towers c.loop-level._level _ c.loop-level-test.true) ∙ c.loop-level.invariant
 
 pub returns : goal.returns
 returns c =
     let x = Ok (made_of c.loop-level.field, pieces_of c.loop-level.parts) in
-    let z : 0 ≡ c.args.towers - c.loop-level.-level = omega arith in
+    let z : 0 ≡ c.args.towers - c.loop-level._level = omega arith in
     sym (raises_none x) ∙ ap (λ k. raises k x) z ∙ c.loop-level.invariant

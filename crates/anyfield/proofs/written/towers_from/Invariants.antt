@@ -5,4 +5,4 @@ use Rattle.anyfield.specs.Written.{raises}
 use Rattle.anyfield.proofs.written.towers_from.Given as goal
 
 abbrev pub invariant-loop-level : goal.invariant-loop-level
-invariant-loop-level l = raises (l.towers - l.-level) (Ok (made_of l.field, pieces_of l.parts)) ≡ raises l.towers (Ok (made_of l.initial.field, pieces_of l.initial.parts))
+invariant-loop-level l = raises (l.towers - l._level) (Ok (made_of l.field, pieces_of l.parts)) ≡ raises l.towers (Ok (made_of l.initial.field, pieces_of l.initial.parts))

@@ -9,13 +9,14 @@ use Rattle.sampling.proofs.level.scaled.Goals as goal
 lesser_first : (v s : Float) → le v s ≡ true → float_min v s ≡ v
 lesser_first v s h = rw h
 
-number : (x : Float) → is_nan x ≡ false → is_nan (float_with_sign false x) ≡ false
-number nan h = h
+number : (y : Float) → sized y ≡ true → is_nan y ≡ false
+unfolding is_nan
+number nan h = sym h
 number (inf s) h = refl
 number (fin s m e) h = refl
 
-lesser_last : (v s : Float) → le v s ≡ false → is_nan v ≡ false → float_min v s ≡ s
-lesser_last v s h n = rw (h, n)
+lesser_last : (v s : Float) → le v s ≡ false → is_nan s ≡ false → float_min v s ≡ s
+lesser_last v s h n = ap (λ b. cond (b || is_nan s) v s) h ∙ ap (λ b. cond b v s) n
 
 first : (c : goal.Then-magnitude-scale) → c.abs-magnitude.result ≡ float_min (float_with_sign false c.args.x) c.args.scale
 first c = sym (lesser_first c.abs-magnitude.result c.args.scale c.if-magnitude-scale.true) ∙ ap (λ (v : Float). float_min v c.args.scale) c.abs-magnitude.ensures.value
@@ -30,4 +31,4 @@ pub returns-else-magnitude-scale-clause-value : goal.returns-else-magnitude-scal
 returns-else-magnitude-scale-clause-value c =
     let v = float_with_sign false c.args.x in
     let h : le v c.args.scale ≡ false = ap (λ (w : Float). le w c.args.scale) (sym c.abs-magnitude.ensures.value) ∙ c.if-magnitude-scale.false in
-    ap size (sym (lesser_last v c.args.scale h (number c.args.x c.requires.0))) ∙ least_size c.args.x c.args.scale c.requires.0 c.requires.1
+    ap size (sym (lesser_last v c.args.scale h (number c.args.scale c.requires.1))) ∙ least_size c.args.x c.args.scale c.requires.0 c.requires.1
