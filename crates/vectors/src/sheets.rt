@@ -18,7 +18,7 @@ fn collect_lines<R: BufRead>(
             break;
         }
         text.extend_from_slice(line.as_slice())?;
-        if content(line.as_slice()) == b"Z" {
+        if content(line.as_slice()) == b"Z".as_slice() {
             break;
         }
     }
