@@ -1,5 +1,5 @@
 -- The turns of the loops: a product by the powers of a factor, and a division by the powers of the quotient. Assumes nothing.
-use Rattle.std.proofs.Common.{◌≡◌, ℕ, zero, suc, ◌+◌, ◌-◌, ◌*◌, ◌/◌, ◌%◌, ◌^◌, ◌<◌, ◌≤◌, Bool, true, false, cond, eqb, ◌⊎◌, sym, ap, ◌∙◌, subst, ap₂, inl, inr, ⊎_elim, add-zero, add-suc, mod-lt, pow-suc, div-add-mod', div-one, arith, pow_pos, shr-shr}
+use Rattle.std.proofs.Common.{◌≡◌, ℕ, zero, suc, ◌+◌, ◌-◌, ◌*◌, ◌/◌, ◌%◌, ◌^◌, ◌<◌, ◌≤◌, Bool, true, false, cond, eqb, sym, ap, ◌∙◌, subst, ap₂, inl, inr, ⊎_elim, add-zero, add-suc, mod-lt, pow-suc, div-add-mod', div-one, arith, pow_pos, shr-shr}
 use native.Mathlib.Nat.{div-eq_of_lt, div-eq_of_lt-le}
 use lib.Count.{count_leading_zeros}
 use lib.Bits.{bit_xor, xor_comm, xor_assoc, xor_zero_r, xor_lt, xor_shr, xor_shifted}

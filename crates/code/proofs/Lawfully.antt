@@ -1,5 +1,5 @@
 -- The two laws of admitting, and the rules of an admitted code.
-use Rattle.std.proofs.Common.{◌≡◌, ℕ, ◌<◌, Bool, true, false, ◌⊎◌, List, [], ◌∷◌, Some, None, Ok, Err, Option, Result, sym, refl, ap, ◌∙◌, subst, inl, inr, arith}
+use Rattle.std.proofs.Common.{◌≡◌, ℕ, true, false, List, [], ◌∷◌, Some, None, Ok, Err, Option, sym, refl, ap, ◌∙◌, subst, inl, inr, arith}
 use Rattle.std.proofs.lemmas.Bool.{both_ways, cases_order}
 use Rattle.code.specs.declared.table.Edge.{Edge}
 use Rattle.code.specs.declared.table.Entry.{Entry}
@@ -13,7 +13,7 @@ use Rattle.code.specs.Places.{Bad, FirstBad}
 use Rattle.code.specs.Rules.{Rules}
 use Rattle.code.specs.Views.{verdict}
 use Rattle.code.proofs.Kept.{rules_from, rules_good}
-use Rattle.code.proofs.Least.{Least, some_none}
+use Rattle.code.proofs.Least.{some_none}
 use Rattle.code.proofs.Told.{least_range, least_order, least_degrees, least_pairs}
 
 abbrev chosen : Option ℕ → Option ℕ → Option ℕ → Option ℕ → Option CodeFault

@@ -1,13 +1,13 @@
 -- Each kind of fault is told at the least place that is bad in its way.
-use Rattle.std.proofs.Common.{◌≡◌, ℕ, zero, suc, ◌+◌, ◌-◌, ◌<◌, ◌≤◌, Bool, true, false, ◌⊎◌, List, [], ◌∷◌, length, Some, None, Decides, sym, refl, ap, ◌∙◌, subst, inl, inr, arith}
+use Rattle.std.proofs.Common.{◌≡◌, ℕ, zero, suc, ◌-◌, ◌<◌, ◌≤◌, Bool, true, false, List, [], ◌∷◌, length, Decides, sym, refl, ap, ◌∙◌, subst, arith}
 use Rattle.std.proofs.lemmas.Bool.{both_ways}
 use Rattle.std.proofs.lemmas.Bool.Decides.{not_from_Decides}
 use Rattle.code.specs.declared.table.Edge.{Edge}
 use Rattle.code.specs.declared.table.Entry.{Entry}
 use Rattle.code.specs.declared.table.Header.{Header}
 use Rattle.code.specs.declared.fault.CodeFault.TheVariants.{OutOfRange, NotRising, Degree, Unmatched}
-use Rattle.code.specs.Admission.{at, after, first, first_bad, first_fall, past, row_degree, column_degree, row_fits, column_fits, edge_fits, entry_fits, edge_before, entry_before, has_edge, range_place, order_place, degree_place, pair_place}
-use Rattle.code.specs.Places.{Bad, Unfit, Falls, Past}
+use Rattle.code.specs.Admission.{at, after, first, first_bad, first_fall, row_degree, column_degree, row_fits, column_fits, edge_fits, entry_fits, edge_before, entry_before, has_edge, range_place, order_place, degree_place, pair_place}
+use Rattle.code.specs.Places.{Bad, Unfit, Falls}
 use Rattle.code.specs.Rules.{Between, EdgeFits, EntryFits, EdgeBefore, EntryBefore, HasEdge, Stands}
 use Rattle.code.proofs.Deciding.{decides_between, decides_numbers, decides_edge, decides_entry, decides_edge_before, decides_entry_before, decides_has_edge, decides_lone_edge}
 use Rattle.code.proofs.Least.{Least, some_none, least_first, least_unless, least_when, least_past, least_or, least_last}

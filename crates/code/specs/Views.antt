@@ -1,5 +1,5 @@
 -- What a code holds, as numbers and lists; the built-in code; the answer of admitting and the code that it leaves. Assumes nothing.
-use Rattle.std.specs.Prelude.{ℕ, List, [], ◌∷◌, Some, None, Ok, Err, Option, Result}
+use Rattle.std.specs.Prelude.{List, [], ◌∷◌, Some, None, Ok, Err, Option, Result}
 use Rattle.code.specs.declared.table.Edge.{Edge}
 use Rattle.code.specs.declared.table.Entry.{Entry}
 use Rattle.code.specs.declared.table.Header.{Header}

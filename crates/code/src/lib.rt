@@ -1,3 +1,5 @@
+#![tactic(auto)]
+
 pub mod code;
 mod degrees;
 pub mod fault;

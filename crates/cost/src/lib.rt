@@ -1,4 +1,6 @@
 // The arithmetic of message costs: what a round does with two numbers at a time.
+#![tactic(auto)]
+
 ghost use Rattle.std.specs.Prelude.{◌-◌, min, cond, ◌≡◌, ltb};
 
 // The lesser of the least so far and one more cost.

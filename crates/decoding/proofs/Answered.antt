@@ -1,5 +1,5 @@
 -- What decoding answers on each of its ways. Assumes nothing.
-use Rattle.std.proofs.Common.{◌≡◌, ℕ, Bool, true, false, cond, eqb, List, Some, None, Option, sym, refl, ap, ◌∙◌, subst, ap₂, arith}
+use Rattle.std.proofs.Common.{◌≡◌, ℕ, Bool, true, false, cond, List, Some, None, Option, sym, refl, ap, ◌∙◌, subst, ap₂, arith}
 use Rattle.std.proofs.lemmas.Bool.{eqb-true}
 use Rattle.field.specs.Tables.{Tables, Lawful}
 use Rattle.code.specs.Views.{View}
@@ -14,7 +14,7 @@ use Rattle.tree.proofs.Decodings.{own_run}
 use Rattle.tree.proofs.Alike.{alike_conclude}
 use Rattle.decoding.specs.Ends.{last_failing, AreaAtEnd, Why, Settled}
 use Rattle.decoding.specs.declared.settling.Stop.{Stop}
-use Rattle.decoding.proofs.Reaching.{AtOnce, at_once, row_told}
+use Rattle.decoding.proofs.Reaching.{at_once, row_told}
 
 module _ (F : Tables) (K : View) (pairs : PairsRule) where
   pub record Answered (size : ℕ) (f : Frame) (after word written : List ℕ) (o : Outcome) (given : Option Slip) (last : Option ℕ) : Type 0 where

@@ -1,5 +1,5 @@
 -- How far the rounds that are due have come: one more of them, and their end. Assumes nothing.
-use Rattle.std.proofs.Common.{◌≡◌, ℕ, zero, suc, ◌+◌, ◌-◌, ◌<◌, ◌≤◌, Bool, true, false, cond, not, ◌&&◌, eqb, ltb, leb, List, ◌++◌, length, take, drop, Some, None, Option, sym, refl, ap, ◌∙◌, subst, ap₂, arith}
+use Rattle.std.proofs.Common.{◌≡◌, ℕ, zero, suc, ◌+◌, ◌-◌, ◌≤◌, Bool, true, false, cond, not, ◌&&◌, eqb, ltb, leb, List, ◌++◌, length, take, drop, Some, None, Option, sym, refl, ap, ◌∙◌, subst, ap₂, arith}
 use Rattle.std.proofs.lemmas.Bool.{and_parts, eq-eqb, ne_eqb, eqb-true, eqb-false, leb-true}
 use Rattle.due.specs.declared.refusal.FrameRefusal.{FrameRefusal}
 use Rattle.due.specs.Refusals.{number_of}
@@ -7,15 +7,15 @@ use Rattle.field.specs.Tables.{Tables}
 use Rattle.code.specs.Views.{View}
 use Rattle.tree.specs.Places.{Admitted, width}
 use Rattle.tree.specs.Rows.{PairsRule, round_pairs}
-use Rattle.tree.specs.Frame.{Numbers, numbers_of, same_numbers, Slip, running, Frame, Words, held_words, area_words, parts_of, laid, within, decided, failing, word_of, rounds, concludes, next_parts, next_slip, Reply, round_told, word_told, Outcome, granted, refused, no_call, grants, want, want_numbers, want_area, want_length, outcome, held_after, obey}
+use Rattle.tree.specs.Frame.{Numbers, numbers_of, same_numbers, Slip, running, Frame, Words, held_words, area_words, parts_of, laid, within, decided, failing, word_of, rounds, concludes, next_parts, next_slip, round_told, word_told, Outcome, granted, refused, no_call, grants, want, want_numbers, want_area, want_length, outcome, held_after, obey}
 use Rattle.tree.specs.Decoding.{Alike, fails, round_on, conclude_on, is_due, settled, rounds_due, at_end, rounds_to, stopped, ended, decoding}
 use Rattle.tree.proofs.Outcomes.{want_is, grants_want}
 use Rattle.tree.proofs.Areas.{holds_is}
 use Rattle.tree.proofs.Follow.{LaidDown, laid_down}
-use Rattle.tree.proofs.Alike.{failing_same, alike_fails, alike_conclude, alike_round, alike_laid}
+use Rattle.tree.proofs.Alike.{failing_same, alike_fails, alike_round, alike_laid}
 use Rattle.tree.proofs.Decodings.{RoundPassed, round_passed}
 use Rattle.frame.specs.Calls.{AreaAfter}
-use Rattle.decoding.specs.Ends.{last_failing, AreaAtEnd, Settled}
+use Rattle.decoding.specs.Ends.{last_failing, Settled}
 
 -- ---- the tests of conclude before the rows
 pub record Opened (F : Tables) (K : View) (size : ℕ) (area : List ℕ) (n : Numbers) : Type 0 where

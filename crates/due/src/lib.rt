@@ -1,4 +1,6 @@
 // What the calls on a frame ask of the field, the slip and what is lent, one test each.
+#![tactic(auto)]
+
 ghost use Rattle.std.specs.Prelude.{◌≡◌, suc, ◌+◌, ◌*◌, min, length, ◌==◌, nat_le, nat_lt};
 ghost use Rattle.code.specs.Views.{view};
 ghost use Rattle.tree.specs.Frame.{numbers_of, same_numbers, area_words};

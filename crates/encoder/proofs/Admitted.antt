@@ -1,11 +1,10 @@
 -- What the rules of an admitted code say of its edges and of its check matrix. Assumes nothing.
-use Rattle.std.proofs.Common.{◌≡◌, ℕ, zero, suc, ◌*◌, ◌<◌, ◌≤◌, Bool, true, false, cond, ◌&&◌, eqb, ◌⊎◌, List, length, get_or, Some, sym, refl, ap, ◌∙◌, subst, ap₂, subst₂, inl, inr, arith}
+use Rattle.std.proofs.Common.{◌≡◌, ℕ, zero, suc, ◌*◌, ◌<◌, ◌≤◌, Bool, true, false, cond, ◌&&◌, eqb, ◌⊎◌, List, length, Some, sym, refl, ◌∙◌, subst, ap₂, subst₂, inl, inr, arith}
 use native.Mathlib.Decide.{ℕ_discrete, dec_lt}
 use Rattle.std.proofs.lemmas.Option.{slice_get_past}
 use Rattle.std.specs.List.{slice_get}
 use Rattle.code.proofs.Kept.{stands_at}
 use Rattle.code.proofs.Lawfully.{rules_of}
-use Rattle.code.specs.Admission.{admission, granted}
 use Rattle.code.specs.Rules.{Rules, HeaderFits, EdgeBefore, Stands}
 use Rattle.code.specs.declared.code.Code.{Code}
 use Rattle.code.specs.declared.table.Edge.{Edge}

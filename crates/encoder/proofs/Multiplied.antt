@@ -1,7 +1,7 @@
 -- A table of all products: one more, and all. Assumes nothing.
-use Rattle.std.proofs.Common.{◌≡◌, ℕ, zero, suc, ◌+◌, ◌*◌, ◌/◌, ◌%◌, ◌<◌, ◌≤◌, ◌≢◌, List, length, get_or, set, sym, refl, ap, ◌∙◌, subst, ap₂, mod-lt, div-lt_iff_lt-mul, mul-le-mul, arith, get_or-set_other, get_or-set_same, below_more}
+use Rattle.std.proofs.Common.{◌≡◌, ℕ, ◌+◌, ◌*◌, ◌/◌, ◌%◌, ◌<◌, ◌≤◌, ◌≢◌, List, length, get_or, set, ◌∙◌, ap₂, mod-lt, div-lt_iff_lt-mul, mul-le-mul, arith, get_or-set_other, get_or-set_same, below_more}
 use lib.Arith.{digits_lt, digits_div, digits_mod}
-use Rattle.field.specs.Tables.{Tables, Lawful}
+use Rattle.field.specs.Tables.{Tables}
 use Rattle.encoder.specs.Bytes.{ProductsTo, Products}
 
 pub square : (q : ℕ) → q ≤ 64 → q * q ≤ 4096

@@ -1,8 +1,7 @@
 -- The opening tests, passed or not, and what follows them. Assumes nothing.
-use Rattle.std.proofs.Common.{◌≡◌, ℕ, zero, suc, ◌-◌, ◌*◌, ◌<◌, ◌≤◌, Bool, true, false, cond, not, eqb, ltb, List, length, get_or, Ok, Err, Result, sym, refl, ap, ◌∙◌, subst, arith, ltb-false, ltb-true, le-ltb, lt-ltb, eq-eqb, eqb-true}
+use Rattle.std.proofs.Common.{◌≡◌, ℕ, ◌*◌, ◌<◌, ◌≤◌, Bool, true, false, not, eqb, ltb, List, length, get_or, Ok, Err, refl, ap, ◌∙◌, arith, ltb-false, ltb-true, lt-ltb, eq-eqb}
 use Rattle.code.specs.declared.code.Code.{Code}
 use Rattle.field.proofs.Tested.{every_below_at}
-use Rattle.field.specs.Every.{every_below}
 use Rattle.field.specs.Tables.{Tables}
 use Rattle.linear.proofs.Search.{every_true}
 use Rattle.linear.proofs.Tests.{eqb_not, eqb_is, no_both}

@@ -1,9 +1,8 @@
 -- One entry of a row more. Assumes nothing.
-use Rattle.std.proofs.Common.{◌≡◌, ℕ, zero, suc, ◌+◌, ◌*◌, ◌/◌, ◌%◌, ◌<◌, ◌≤◌, Bool, true, false, ◌≢◌, ◌⊎◌, List, length, get_or, set, sym, refl, ap, ◌∙◌, subst, ap₂, inl, inr, mul-le-mul, arith, get_or-set_other, get_or-set_same}
-use native.Mathlib.Decide.{ℕ_discrete}
+use Rattle.std.proofs.Common.{◌≡◌, ℕ, suc, ◌+◌, ◌*◌, ◌/◌, ◌%◌, ◌<◌, ◌≤◌, ◌⊎◌, List, length, get_or, set, sym, refl, ap, ◌∙◌, subst, ap₂, inl, inr, arith, get_or-set_other, get_or-set_same}
 use lib.Arith.{digits_lt, digits_div, digits_mod}
-use Rattle.field.specs.Tables.{Tables, Lawful}
-use Rattle.linear.specs.Words.{Matrix, Entries}
+use Rattle.field.specs.Tables.{Tables}
+use Rattle.linear.specs.Words.{Matrix}
 use Rattle.linear.specs.Elimination.{Added}
 use Rattle.encoder.specs.Bytes.{laid}
 use Rattle.linear.proofs.Tests.{last}

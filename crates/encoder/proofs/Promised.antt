@@ -1,10 +1,10 @@
 -- The laws of a call, from its answer and what it leaves. Assumes nothing.
-use Rattle.std.proofs.Common.{◌≡◌, ℕ, ◌-◌, ◌<◌, ◌≤◌, Bool, true, false, cond, List, length, get_or, Ok, Err, Result, sym, refl, ap, ◌∙◌, subst, ap₂, subst₂, arith}
+use Rattle.std.proofs.Common.{◌≡◌, ℕ, ◌-◌, ◌≤◌, Bool, true, false, cond, List, length, Ok, Err, sym, refl, ap, ◌∙◌, subst, arith}
 use Rattle.field.specs.Tables.{Tables, Lawful}
 use Rattle.linear.specs.Columns.{information_columns, Carries}
 use Rattle.linear.specs.Encoded.{Encoded, the_word, symbols_of}
 use Rattle.linear.specs.Rows.{dependent, row_fails}
-use Rattle.linear.specs.Words.{Codes, Codeword, Entries, Matrix, row_sum}
+use Rattle.linear.specs.Words.{Codes, Codeword, Entries, Matrix}
 use Rattle.linear.proofs.Encoding.{counted_stands}
 use Rattle.linear.proofs.Laws.{only_word, carries_symbols, encodes, extracts}
 use Rattle.linear.proofs.Search.{rows_told, fails_at, holds_all}

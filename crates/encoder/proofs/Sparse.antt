@@ -1,15 +1,15 @@
 -- The rows of the listed matrix are the sums over their edges. Assumes nothing.
-use Rattle.std.proofs.Common.{◌≡◌, ℕ, zero, suc, ◌+◌, ◌<◌, ◌≤◌, Bool, true, false, cond, ◌&&◌, eqb, ◌⊎◌, List, length, get_or, sym, refl, ap, ◌∙◌, subst, ap₂, inl, inr, add-one, arith, eq-eqb}
+use Rattle.std.proofs.Common.{◌≡◌, ℕ, zero, suc, ◌+◌, ◌<◌, ◌≤◌, Bool, true, false, cond, ◌&&◌, eqb, List, length, get_or, sym, refl, ap, ◌∙◌, subst, ap₂, add-one, arith, eq-eqb}
 use native.Mathlib.Decide.{ℕ_discrete}
 use Rattle.field.specs.Tables.{Tables, Lawful}
 use Rattle.code.specs.declared.table.Edge.{Edge}
-use Rattle.linear.specs.Words.{total, Codes, Matrix, Entries, row_sum}
+use Rattle.linear.specs.Words.{total, Codes, Entries, row_sum}
 use Rattle.encoder.specs.CheckMatrix.{edge_at, coefficient_in, matrix_of, Listed, edge_sum}
-use Rattle.linear.proofs.Tests.{eqb_same, eqb_is, eqb_not, no_both}
+use Rattle.linear.proofs.Tests.{eqb_same, eqb_not}
 use Rattle.linear.proofs.Ring.{add-zero, mul-zero, zero-mul, mul-one}
-use Rattle.linear.proofs.Sums.{sum, sum_zero, sum_same, dot, dot_turned, dot_add_left, dot_unit, unit, unit_same, unit_other}
+use Rattle.linear.proofs.Sums.{sum_zero, sum_same, dot, dot_turned, dot_add_left, dot_unit, unit, unit_same, unit_other}
 use Rattle.linear.proofs.Coded.{Below, below_path, plus, times, nought, unity, codes_field, code, code_is, total_is}
-use Rattle.linear.proofs.Encoding.{As, held, as_held}
+use Rattle.linear.proofs.Encoding.{held, as_held}
 
 and_false : (b : Bool) → b && false ≡ false
 and_false true = refl

@@ -1,5 +1,5 @@
 -- Code A over the field of three codes, by the definitions alone. Assumes nothing.
-use Rattle.std.specs.Prelude.{◌≡◌, ℕ, ◌+◌, ◌*◌, ◌%◌, false, List, [], ◌∷◌}
+use Rattle.std.specs.Prelude.{◌≡◌, ℕ, ◌+◌, ◌*◌, ◌%◌, false, [], ◌∷◌}
 use Rattle.code.specs.declared.table.Edge.{Edge}
 use Rattle.field.specs.Tables.{Tables}
 use Rattle.linear.specs.Encoded.{the_word, symbols_of}

@@ -1,7 +1,7 @@
 -- What a granted call leaves, and when the last refusals are given, in the subject's words. Assumes nothing.
 use Rattle.std.specs.Prelude.{◌≡◌, ℕ, ◌<◌, List, Ok, Err, ◌≢◌}
 use Rattle.field.specs.Tables.{Tables}
-use Rattle.linear.specs.Columns.{Carries, information_columns}
+use Rattle.linear.specs.Columns.{Carries}
 use Rattle.linear.specs.Encoded.{Encoded, the_word, symbols_of}
 use Rattle.linear.specs.Rows.{Dependent as RowsDepend}
 use Rattle.linear.specs.Words.{Codeword, Matrix, row_sum}

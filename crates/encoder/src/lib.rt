@@ -1,4 +1,6 @@
 // Encoding symbols into the codeword that carries them, and extracting them again: one text for all codes and all fields.
+#![tactic(auto)]
+
 mod codes;
 mod edges;
 mod elimination;

@@ -1,3 +1,5 @@
+#![tactic(auto)]
+
 ghost use Rattle.std.specs.Prelude.{◌≡◌};
 ghost use Rattle.field.specs.Refusals.{number_of};
 ghost use Rattle.field.specs.Tables.{Tables, Lawful, sum_of, product_of, opposite_of, inverse_of};

@@ -1,5 +1,5 @@
 -- One row after another. Assumes nothing.
-use Rattle.std.proofs.Common.{◌≡◌, ℕ, zero, suc, ◌+◌, ◌-◌, ◌*◌, ◌<◌, ◌≤◌, min, Bool, true, false, cond, ltb, ◌≢◌, ◌⊎◌, List, length, get_or, take, drop, sym, refl, ap, ◌∙◌, subst, ap₂, inl, inr, add-one, arith}
+use Rattle.std.proofs.Common.{◌≡◌, ℕ, zero, suc, ◌+◌, ◌-◌, ◌<◌, ◌≤◌, min, ltb, ◌≢◌, ◌⊎◌, List, length, take, drop, sym, refl, ap, ◌∙◌, subst, ap₂, inl, inr, add-one, arith}
 use Rattle.std.proofs.lemmas.List.{get_or-take, get_or-drop}
 use Rattle.std.proofs.lemmas.List.Edits.{length-between}
 use Rattle.std.proofs.lemmas.Bool.{cases_lt, lt-ltb, le-ltb, cond_both, ltb-true, ltb-false}
@@ -7,9 +7,9 @@ use Rattle.tree.specs.Over.{over, count}
 use Rattle.field.specs.Tables.{Tables}
 use Rattle.tree.proofs.Folds.{over_tests}
 use Rattle.frame.specs.Vectors.{minus, over_one}
-use Rattle.tree.specs.Rows.{gathered, forth, back, around, around_at, row_pairs}
+use Rattle.tree.specs.Rows.{gathered, forth, back, around, row_pairs}
 use Rattle.frame.specs.Blocks.{block}
-use Rattle.frame.specs.Row.{read_at, row_vectors, coefficient_at, RowDone}
+use Rattle.frame.specs.Row.{row_vectors, coefficient_at, RowDone}
 use Rattle.frame.specs.AllRows.{starts, last_of, coefficients_of, vectors_of, read_of, rows_pairs, RowsTo, Cut}
 use Rattle.frame.specs.Columns.{row_at}
 use Rattle.code.specs.declared.table.Edge.{Edge}

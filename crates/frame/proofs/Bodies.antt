@@ -1,32 +1,30 @@
 -- The five steps of a round one after another: what each finds, and what the last one leaves. Assumes nothing.
-use Rattle.std.proofs.Common.{◌≡◌, ℕ, zero, suc, pred, ◌+◌, ◌-◌, ◌*◌, ◌/◌, ◌%◌, ◌<◌, ◌≤◌, min, Bool, true, cond, eqb, ◌⊎◌, List, length, get_or, take, drop, replicate, sym, refl, ap, ◌∙◌, subst, ap₂, inl, inr, mod-lt, add-mul, arith, length-drop}
+use Rattle.std.proofs.Common.{◌≡◌, ℕ, zero, suc, pred, ◌+◌, ◌-◌, ◌*◌, ◌/◌, ◌%◌, ◌<◌, ◌≤◌, min, eqb, ◌⊎◌, List, length, get_or, drop, replicate, sym, refl, ap, ◌∙◌, subst, ap₂, inl, inr, mod-lt, add-mul, arith, length-drop}
 use Rattle.std.proofs.lemmas.List.{ext_get_or, get_or-replicate, get_or_past, get_or-take, get_or-drop}
 use Rattle.std.proofs.lemmas.Nat.{mul-le, le-div, div-add-mod'}
 use Rattle.std.proofs.lemmas.Bool.{cases_lt}
 use Rattle.field.specs.Tables.{Tables, Lawful, opposite_of, inverse_of}
 use Rattle.code.specs.Views.{View}
 use Rattle.joiner.specs.Costs.{Low}
-use Rattle.tree.specs.Over.{over, total, count, least_to}
-use Rattle.tree.specs.Places.{Admitted, width, row_of, column_of, coefficient_of, at_column, at_edge, arms}
+use Rattle.tree.specs.Over.{least_to}
+use Rattle.tree.specs.Places.{width, row_of, column_of, coefficient_of, at_column, at_edge}
 use Rattle.tree.specs.Tree.{lower}
-use Rattle.tree.specs.Statement.{Loaded, Within}
 use Rattle.tree.specs.Decoder.{from_check_cost, column_sum, less_least, round_to, round_distance}
 use Rattle.tree.specs.Columns.{height}
 use Rattle.tree.specs.Rows.{PairsRule, tabled, gathered, code_in, read_by, around, first_of, round_pairs}
 use Rattle.tree.specs.Rows as tree
 use Rattle.tree.specs.Columns as entries
-use Rattle.tree.specs.Frame.{held_words, area_words, parts_of, laid, rounds, next_parts}
+use Rattle.tree.specs.Frame.{held_words, area_words, parts_of, rounds, next_parts}
 use Rattle.tree.proofs.Facts.{Facts, facts}
 use Rattle.tree.proofs.Laws.{laws_of}
 use Rattle.tree.proofs.Folds.{over_same}
 use Rattle.tree.proofs.Columns.{entry_edge, only_edge, column_total}
-use Rattle.tree.proofs.Rows.{length_tabled, at_tabled, tabled_block, rows_rise, row_in, row_two, rows_theorem}
+use Rattle.tree.proofs.Rows.{length_tabled, at_tabled, tabled_block, row_in, row_two, rows_theorem}
 use Rattle.tree.proofs.Bounds.{from_low, column_low, edge_sum}
 use Rattle.tree.proofs.Follow.{held_is}
 use Rattle.frame.specs.Blocks.{block, blocks, Filled}
-use Rattle.frame.specs.Row.{coefficient_at, row_vectors}
-use Rattle.frame.specs.Columns.{row_at, column_at, entry_at, Rising, StandsAt, HasAt, edge_of, word, rests, lowered, SummedTo}
-use Rattle.frame.specs.AllRows.{starts, last_of, coefficients_of, vectors_of, read_of, rows_pairs, RowsTo}
+use Rattle.frame.specs.Columns.{column_at, entry_at, edge_of, word, rests, lowered, SummedTo}
+use Rattle.frame.specs.AllRows.{starts, last_of, vectors_of, read_of, rows_pairs, RowsTo}
 use Rattle.frame.specs.Round.{Ready, Moved}
 use Rattle.frame.proofs.Written.{room}
 use Rattle.frame.proofs.AllRows.{all_same, row_pairs_same}

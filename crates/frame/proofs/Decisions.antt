@@ -1,10 +1,9 @@
 -- The decided symbols, as they stand in a word, and the rows that fail with them. Assumes nothing.
-use Rattle.std.proofs.Common.{◌≡◌, ℕ, pred, ◌+◌, ◌*◌, ◌<◌, ◌≤◌, Bool, not, eqb, ◌⊎◌, List, length, get_or, sym, refl, ap, ◌∙◌, subst, ap₂, inl, inr, arith}
+use Rattle.std.proofs.Common.{◌≡◌, ℕ, pred, ◌+◌, ◌*◌, ◌<◌, ◌≤◌, not, eqb, ◌⊎◌, List, length, get_or, ap, ◌∙◌, inl, inr, arith}
 use Rattle.std.proofs.lemmas.List.{get_or_past}
 use Rattle.std.proofs.lemmas.Bool.{cases_lt}
-use Rattle.field.specs.Tables.{Tables, Lawful}
+use Rattle.field.specs.Tables.{Tables}
 use Rattle.code.specs.Views.{View}
-use Rattle.tree.specs.Over.{over, count, lowest_to}
 use Rattle.tree.specs.Places.{Admitted, width, row_of, column_of, coefficient_of}
 use Rattle.tree.specs.Rows.{tabled}
 use Rattle.tree.specs.Frame.{parts_of, decided, row_sum, failing, word_of}

@@ -1,5 +1,5 @@
 -- The opposite and the inverse of a code, as codes. Assumes nothing.
-use Rattle.std.proofs.Common.{◌≡◌, ℕ, ◌<◌, ◌≤◌, Some, None, Option, sym, refl, ap, ◌∙◌, subst, arith}
+use Rattle.std.proofs.Common.{◌≡◌, ℕ, ◌<◌, Some, Option, sym, ap, ◌∙◌, subst}
 use Rattle.field.specs.Tables.{Tables, Lawful, opposite_of, inverse_of}
 use Rattle.field.proofs.Derived.{opposite_at, inverse_at}
 use Rattle.field.proofs.Unique.{opposite_is, inverse_is}

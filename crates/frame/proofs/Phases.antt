@@ -1,10 +1,10 @@
 -- A row's five steps one after another. Assumes nothing.
-use Rattle.std.proofs.Common.{◌≡◌, ℕ, zero, suc, ◌+◌, ◌-◌, ◌*◌, ◌/◌, ◌<◌, ◌≤◌, ◌≢◌, ◌⊎◌, List, length, sym, refl, ap, ◌∙◌, subst, ap₂, inl, inr, arith}
+use Rattle.std.proofs.Common.{◌≡◌, ℕ, suc, ◌+◌, ◌-◌, ◌<◌, ◌≤◌, ◌≢◌, ◌⊎◌, List, sym, ap, ◌∙◌, subst, ap₂, inl, inr, arith}
 use Rattle.field.specs.Tables.{Tables, Lawful}
 use Rattle.frame.specs.Vectors.{minus, over_one}
-use Rattle.tree.specs.Rows.{gathered, forth, back, forth_pairs, back_pairs, around_at, around_pairs, around, row_pairs}
+use Rattle.tree.specs.Rows.{gathered, forth, back, forth_pairs, back_pairs, around_at, around_pairs, row_pairs}
 use Rattle.joiner.specs.Costs.{Low}
-use Rattle.frame.specs.Blocks.{block, blocks, from_on, Wrote, Filled}
+use Rattle.frame.specs.Blocks.{block, from_on, Wrote, Filled}
 use Rattle.frame.specs.Row.{read_at, row_vectors, RowDone}
 use Rattle.frame.proofs.Vectors.{low_gathered}
 use Rattle.frame.proofs.Turns.{around_same, pairs_same, forth_same, back_same, forth_pairs_same, back_pairs_same, low_forth, low_back}

@@ -1,8 +1,8 @@
 -- Where a row and a column stand in the row table. Assumes nothing.
-use Rattle.std.proofs.Common.{◌≡◌, ℕ, pred, ◌<◌, ◌≤◌, Bool, true, false, cond, ◌&&◌, eqb, ltb, ◌⊎◌, List, length, sym, refl, ap, ◌∙◌, subst, inl, inr, arith}
+use Rattle.std.proofs.Common.{◌≡◌, ℕ, pred, ◌<◌, ◌≤◌, Bool, true, false, cond, ◌&&◌, eqb, ltb, ◌⊎◌, List, length, refl, ap, ◌∙◌, inl, inr, arith}
 use Rattle.std.proofs.lemmas.Bool.{eq-eqb, eqb-true, ltb-true, ltb-false, and_from, and_parts, and_cases, or_cases, or_parts, cases_order}
 use Rattle.code.specs.declared.table.Edge.{Edge}
-use Rattle.tree.specs.Over.{least_to, lowest_to}
+use Rattle.tree.specs.Over.{lowest_to}
 use Rattle.tree.proofs.Words.{lowest_low, lowest_under}
 use Rattle.frame.specs.Columns.{edge_at, row_at, column_at, before, Rising, StandsAt, HasAt, position_of}
 

@@ -5,7 +5,7 @@ use Rattle.std.proofs.lemmas.Nat.{mul-le}
 use Rattle.field.specs.Tables.{Tables, Lawful}
 use Rattle.tree.specs.Rows.{gathered, forth, back, forth_pairs, back_pairs, around_at, around_pair, around_pairs}
 use Rattle.joiner.specs.Costs.{Low}
-use Rattle.frame.specs.Blocks.{block, blocks, put, from_on, Wrote, Filled}
+use Rattle.frame.specs.Blocks.{block, blocks, put, Wrote, Filled}
 use Rattle.frame.specs.Joins.{turned, stepped}
 use Rattle.frame.proofs.Written.{room, block_put_same, block_put_other}
 use Rattle.tree.specs.Rows.{joined}

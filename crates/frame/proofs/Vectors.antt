@@ -1,12 +1,11 @@
 -- Vectors that are tabled or gathered: how long they are, and how high; and which joins are not refused. Assumes nothing.
-use Rattle.std.proofs.Common.{◌≡◌, ℕ, zero, suc, ◌+◌, ◌*◌, ◌<◌, ◌≤◌, Bool, true, false, cond, ◌&&◌, eqb, leb, ◌⊎◌, List, [], ◌∷◌, length, get_or, Some, None, Option, sym, refl, ap, ◌∙◌, subst, inl, inr, arith}
+use Rattle.std.proofs.Common.{◌≡◌, ℕ, suc, ◌<◌, ◌≤◌, true, leb, ◌⊎◌, List, [], ◌∷◌, length, get_or, None, refl, inl, inr, arith}
 use Rattle.std.proofs.lemmas.List.FromFn.{length-map-range_with_len, get_or-map-range_with_len}
 use Rattle.std.proofs.lemmas.List.{get_or_past}
-use Rattle.std.proofs.lemmas.Bool.{cases_lt, le-leb, leb-true, eq-eqb, and_from, and_parts}
-use Rattle.field.specs.Tables.{Tables, Lawful}
+use Rattle.std.proofs.lemmas.Bool.{cases_lt, le-leb, eq-eqb, and_from}
+use Rattle.field.specs.Tables.{Tables}
 use Rattle.joiner.specs.Costs.{within}
 use Rattle.joiner.specs.Answers.{refusal_of}
-use Rattle.joiner.specs.declared.refusal.JoinRefusal.{JoinRefusal}
 use Rattle.tree.specs.Rows.{tabled, gathered}
 use Rattle.joiner.specs.Costs.{Low}
 

@@ -1,9 +1,9 @@
 -- One block written, and the others as they were. Assumes nothing.
-use Rattle.std.proofs.Common.{◌≡◌, ℕ, suc, ◌+◌, ◌-◌, ◌*◌, ◌/◌, ◌<◌, ◌≤◌, ◌≢◌, ◌⊎◌, List, ◌++◌, length, get_or, take, drop, sym, refl, ap, ◌∙◌, subst, inl, inr, arith, length-drop, rules}
-use Rattle.std.proofs.lemmas.List.{places, same_lists, take_at, drop_at, length-take-le, length-append}
+use Rattle.std.proofs.Common.{◌≡◌, ℕ, suc, ◌+◌, ◌*◌, ◌/◌, ◌<◌, ◌≤◌, ◌≢◌, ◌⊎◌, List, ◌++◌, length, take, drop, sym, subst, inl, inr, arith, length-drop, rules}
+use Rattle.std.proofs.lemmas.List.{places, same_lists, length-take-le}
 use Rattle.std.proofs.lemmas.Nat.{mul-le, div-add-mod'}
 use Rattle.std.proofs.lemmas.Bool.{cases_order}
-use Rattle.frame.specs.Blocks.{block, blocks, put}
+use Rattle.frame.specs.Blocks.{block, put}
 
 pub room : (q j n : ℕ) → j < n / q → j * q + q ≤ n
 room q j n h = omega (arith, mul-le (suc j) q (n / q) q h (omega arith), div-add-mod' n q)

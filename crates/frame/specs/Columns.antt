@@ -1,8 +1,8 @@
 -- Where an entry's edge stands, sums by column, and costs less the least. Assumes nothing.
-use Rattle.std.specs.Prelude.{◌≡◌, ℕ, zero, suc, pred, ◌+◌, ◌-◌, ◌<◌, ◌≤◌, min, Bool, cond, ◌&&◌, ◌||◌, ◌⊎◌, List, length, ◌==◌, nat_eq, nat_lt, slice_index, slice_index_or}
+use Rattle.std.specs.Prelude.{◌≡◌, ℕ, pred, ◌+◌, ◌-◌, ◌<◌, ◌≤◌, min, Bool, cond, ◌&&◌, ◌||◌, ◌⊎◌, List, length, ◌==◌, nat_eq, nat_lt, slice_index, slice_index_or}
 use Rattle.code.specs.declared.table.Edge.{Edge}
 use Rattle.code.specs.declared.table.Entry.{Entry}
-use Rattle.tree.specs.Over.{total, count, least_to, lowest_to}
+use Rattle.tree.specs.Over.{total, least_to, lowest_to}
 use Rattle.tree.specs.Rows.{tabled}
 use Rattle.frame.specs.Blocks.{block}
 

@@ -1,3 +1,5 @@
+#![tactic(auto)]
+
 mod around;
 mod blocks;
 mod body;

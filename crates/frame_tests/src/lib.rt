@@ -1,4 +1,6 @@
 // A frame's calls, run on codes and loads: tests, and the worked example as a fact.
+#![tactic(auto)]
+
 ghost use Rattle.frame_tests.specs.Example.{FrameExample};
 
 #[cfg(test)]

@@ -1,10 +1,10 @@
 -- One pair after another: what the vector under way keeps, and that the join comes of it. Assumes nothing.
-use Rattle.std.proofs.Common.{◌≡◌, ℕ, ◌+◌, ◌-◌, ◌<◌, ◌≤◌, min, ◌⊎◌, List, [], ◌∷◌, length, get_or, set, replicate, All, sym, refl, ap, ◌∙◌, subst, inl, inr, arith}
+use Rattle.std.proofs.Common.{◌≡◌, ℕ, ◌<◌, ◌≤◌, min, ◌⊎◌, List, [], ◌∷◌, length, get_or, replicate, All, sym, ap, ◌∙◌, subst, inl, inr, arith}
 use Rattle.std.specs.List.{range_with_len}
 use Rattle.std.proofs.lemmas.List.{length-set, length-replicate, get_or-replicate, get_or-set_same, get_or-set_other}
 use Rattle.std.proofs.lemmas.Bool.{cases_eq, cases_lt}
 use Rattle.field.specs.Tables.{Tables, Lawful}
-use Rattle.joiner.specs.Costs.{worse, Low}
+use Rattle.joiner.specs.Costs.{Low}
 use Rattle.joiner.specs.Joined.{pair_cost, joined_at, joined_of, Reaches}
 use Rattle.joiner.specs.Loops.{lowered, rowed, combined}
 use Rattle.joiner.specs.Members.{In, in_counting, all_codes}

@@ -1,5 +1,5 @@
 -- The joined vector is the join, and no other is. Assumes nothing.
-use Rattle.std.proofs.Common.{◌≡◌, ℕ, ◌<◌, ◌≤◌, Bool, true, eqb, ◌⊎◌, List, map, length, get_or, All, sym, refl, ap, ◌∙◌, subst, inl, inr, arith}
+use Rattle.std.proofs.Common.{◌≡◌, ℕ, ◌<◌, ◌≤◌, Bool, eqb, ◌⊎◌, List, map, length, get_or, All, sym, refl, subst, inl, inr, arith}
 use Rattle.std.specs.List.{range_with_len}
 use Rattle.std.proofs.lemmas.List.FromFn.{length-map-range_with_len, get_or-map-range_with_len, fill_by_all}
 use Rattle.std.proofs.lemmas.List.Elements.{All-map, All-weaker}
@@ -7,8 +7,8 @@ use Rattle.std.proofs.lemmas.List.{get_or_past}
 use Rattle.std.proofs.lemmas.Bool.{eq-eqb, eqb-true, cases_lt}
 use Rattle.field.specs.Tables.{Tables, Lawful}
 use Rattle.field.proofs.Cancel.{zero_code, sum_zero}
-use Rattle.joiner.specs.Costs.{worse, Low}
-use Rattle.joiner.specs.Joined.{least, pairs_below, pairs_to, pair_cost, joined_at, joined_of, Reaches, IsJoin}
+use Rattle.joiner.specs.Costs.{Low}
+use Rattle.joiner.specs.Joined.{pairs_below, pairs_to, pair_cost, joined_at, joined_of, Reaches, IsJoin}
 use Rattle.joiner.specs.Members.{In, in_map, in_kept, in_counting, in_concatenated, in_some, all_codes, all_concatenated, all_kept, least_is, least_under}
 
 pair_in : (q b c : ℕ) → b < q → c < q → In (pairs_below q) (b, c)

@@ -1,12 +1,11 @@
 -- The entries up to the level give the whole join. Assumes nothing.
-use Rattle.std.proofs.Common.{◌≡◌, ℕ, ◌+◌, ◌-◌, ◌<◌, ◌≤◌, leb, ◌⊎◌, List, length, get_or, replicate, sym, refl, ap, ◌∙◌, subst, inl, inr, arith}
+use Rattle.std.proofs.Common.{◌≡◌, ℕ, ◌+◌, ◌-◌, ◌<◌, ◌≤◌, ◌⊎◌, List, get_or, replicate, sym, refl, ap, ◌∙◌, subst, inl, inr, arith}
 use Rattle.std.proofs.lemmas.Bool.{cases_lt, le-leb, leb-true}
 use Rattle.field.specs.Tables.{Tables, Lawful}
-use Rattle.joiner.specs.Costs.{worse, Low}
-use Rattle.joiner.specs.Joined.{pair_cost, joined_at, joined_of, Reaches}
-use Rattle.joiner.specs.Level.{count, is_chosen, chosen, level_of}
+use Rattle.joiner.specs.Costs.{Low}
+use Rattle.joiner.specs.Joined.{joined_at, joined_of, Reaches}
+use Rattle.joiner.specs.Level.{is_chosen, chosen, level_of}
 use Rattle.joiner.specs.Loops.{listed, combined}
-use Rattle.joiner.specs.Members.{In}
 use Rattle.joiner.proofs.Joining.{joined_under, joined_reached, joined_by}
 use Rattle.joiner.proofs.Combining.{Fit, fit_none, fit, under, settled}
 use Rattle.joiner.specs.Counts.{all_listed, in_listed, level_is}

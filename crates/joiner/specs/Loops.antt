@@ -1,5 +1,5 @@
 -- What the loops of a join make, step by step: for the crate's own functions. Assumes nothing.
-use Rattle.std.specs.Prelude.{◌≡◌, ℕ, zero, suc, ◌+◌, ◌<◌, ◌≤◌, min, Bool, cond, List, [], ◌∷◌, ◌++◌, length, nat_eq, nat_le, slice_index, slice_set}
+use Rattle.std.specs.Prelude.{◌≡◌, ℕ, zero, suc, ◌+◌, ◌<◌, min, Bool, cond, List, [], ◌∷◌, ◌++◌, length, nat_eq, nat_le, slice_index, slice_set}
 use Rattle.field.specs.Tables.{Tables}
 use Rattle.joiner.specs.Joined.{pair_cost}
 use Rattle.joiner.specs.Level.{count}

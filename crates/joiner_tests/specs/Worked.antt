@@ -1,5 +1,5 @@
 -- The worked examples of joining, over the prime field of order 3. Assumes nothing.
-use Rattle.std.specs.Prelude.{List, [], ◌∷◌, Ok}
+use Rattle.std.specs.Prelude.{[], ◌∷◌, Ok}
 use Rattle.joiner_tests.specs.declared.outcome.Examples.{Examples}
 
 -- (0, 5, 9) joined with (0, 6, 8) at the ceiling 31 is (0, 5, 6): the full joiner tells 9 pairs, the selective one 4.

@@ -1,4 +1,6 @@
 // Encodes and extracts with a code of the largest size, and says whether the symbols come back.
+#![tactic(auto)]
+
 use binary::Binary;
 use code::code::Code;
 use code::code::admit::admit;

@@ -1,7 +1,7 @@
 -- The one codeword that carries the symbols is the first that does. Assumes nothing.
-use Rattle.std.proofs.Common.{◌≡◌, ℕ, zero, suc, ◌+◌, ◌<◌, ◌≤◌, Bool, true, false, cond, not, ◌&&◌, eqb, List, [], ◌∷◌, length, get_or, sym, refl, ap, ◌∙◌, subst, ap₂, le_of_suc-le-suc, not-suc-le-zero, arith, eq-eqb, eqb-true}
+use Rattle.std.proofs.Common.{◌≡◌, ℕ, zero, suc, ◌+◌, ◌<◌, ◌≤◌, Bool, true, false, cond, ◌&&◌, eqb, List, ◌∷◌, get_or, sym, refl, ap, ◌∙◌, ap₂, le_of_suc-le-suc, not-suc-le-zero, arith, eq-eqb, eqb-true}
 use Rattle.field.specs.Tables.{Tables}
-use Rattle.field.specs.Every.{every_below, some_below}
+use Rattle.field.specs.Every.{every_below}
 use Rattle.field.proofs.Tested.{some_below_at, every_below_at, and_true}
 use Rattle.linear.specs.Columns.{combined, Carries}
 use Rattle.linear.specs.Count.{count}

@@ -1,11 +1,11 @@
 -- One row more is cleared. Assumes nothing.
-use Rattle.std.proofs.Common.{◌≡◌, ℕ, zero, suc, ◌+◌, ◌*◌, ◌<◌, ◌≤◌, ◌⊎◌, List, length, get_or, set, sym, refl, ap, ◌∙◌, subst, ap₂, inl, inr, arith}
+use Rattle.std.proofs.Common.{◌≡◌, ℕ, suc, ◌<◌, ◌≤◌, ◌⊎◌, sym, refl, ap, ◌∙◌, subst, ap₂, inl, inr, arith}
 use native.Mathlib.Decide.{ℕ_discrete}
 use Rattle.field.specs.Tables.{Tables, Lawful}
 use Rattle.linear.specs.Elimination.{Added, RowCleared, Cleared, ClearedTo, OneCleared}
 use Rattle.linear.specs.Words.{Matrix, Entries}
 use Rattle.linear.proofs.Tests.{last}
-use Rattle.linear.proofs.Ring.{Field, zero-mul, mul-one, add-mul}
+use Rattle.linear.proofs.Ring.{zero-mul, mul-one, add-mul}
 use Rattle.linear.proofs.Coded.{Below, below_path, plus, times, nought, unity, codes_field}
 use Rattle.linear.proofs.Reduce.{mx, product_zero, sum_zero_right}
 

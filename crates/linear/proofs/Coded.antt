@@ -1,5 +1,5 @@
 -- The codes of lawful tables are a field. Assumes nothing.
-use Rattle.std.proofs.Common.{◌≡◌, ℕ, zero, suc, ◌+◌, ◌<◌, ◌≤◌, sym, refl, ap, ◌∙◌, subst, ap₂, arith}
+use Rattle.std.proofs.Common.{◌≡◌, ℕ, zero, suc, ◌<◌, refl, ap, ap₂, arith}
 use mathlib.Core.HLevel.{Σ_prop_path}
 use native.Mathlib.Decide.{ℕ_discrete, dec_lt}
 use native.Mathlib.Bridge.{le_prop}

@@ -1,7 +1,7 @@
 -- Lemmas on counts. Assumes nothing.
-use Rattle.std.proofs.Common.{◌≡◌, ℕ, zero, suc, ◌+◌, ◌<◌, ◌≤◌, Bool, true, false, cond, not, ◌&&◌, eqb, ◌⊎◌, sym, refl, ap, ◌∙◌, subst, ap₂, inl, inr, arith}
+use Rattle.std.proofs.Common.{◌≡◌, ℕ, zero, suc, ◌+◌, ◌<◌, ◌≤◌, Bool, true, false, cond, not, ◌&&◌, eqb, ◌⊎◌, sym, refl, ap, ◌∙◌, subst, inl, inr, arith}
 use Rattle.linear.specs.Count.{count}
-use Rattle.linear.proofs.Tests.{last, eqb_same, eqb_is, eqb_not, no_both}
+use Rattle.linear.proofs.Tests.{last, eqb_is, eqb_not, no_both}
 
 -- some number passes where some are counted
 pub counted : (n : ℕ) (test : ℕ → Bool) → 1 ≤ count n test → (x : ℕ) × (x < n) × (test x ≡ true)

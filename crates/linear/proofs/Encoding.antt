@@ -1,24 +1,24 @@
 -- The theorems on every matrix, from those over any field. Assumes nothing.
-use Rattle.std.proofs.Common.{◌≡◌, ℕ, zero, suc, ◌+◌, ◌<◌, ◌≤◌, Bool, true, false, cond, not, eqb, ltb, ◌⊎◌, List, map, length, get_or, sym, refl, ap, ◌∙◌, subst, ap₂, inl, inr, arith}
-use native.Mathlib.Decide.{ℕ_discrete, dec_lt}
+use Rattle.std.proofs.Common.{◌≡◌, ℕ, ◌<◌, ◌≤◌, Bool, true, false, cond, ltb, List, map, get_or, sym, refl, ap, ◌∙◌, subst, ap₂, arith}
+use native.Mathlib.Decide.{dec_lt}
 use Rattle.std.specs.List.{range_with_len}
 use Rattle.std.proofs.lemmas.List.FromFn.{length-map-range_with_len, get_or-map-range_with_len, fill_by_all}
 use Rattle.field.specs.Tables.{Tables, Lawful}
-use Rattle.linear.specs.Columns.{Combination, higher_sum, combined, is_check, check_columns, information_columns, Carries}
+use Rattle.linear.specs.Columns.{higher_sum, combined, check_columns, information_columns}
 use Rattle.linear.specs.Count.{count}
 use Rattle.linear.specs.Encoded.{Encoded}
 use Rattle.linear.specs.Laws.{Counted}
 use Rattle.linear.specs.Rank.{Vanishing, Independent, Rank}
 use Rattle.linear.specs.Rows.{rows_sum, Dependent}
-use Rattle.linear.specs.Words.{total, Codes, Matrix, Entries, Codeword, row_sum}
+use Rattle.linear.specs.Words.{Codes, Matrix, Entries, Codeword, row_sum}
 use Rattle.linear.proofs.Tests.{no_both}
 use Rattle.linear.proofs.Counts.{count_below, count_both}
 use Rattle.linear.proofs.Sums.{sum, dot}
 use Rattle.linear.proofs.Words as words
 use Rattle.linear.proofs.Words.{Solves, Tells, some_word_is, alone}
-use Rattle.linear.proofs.Higher.{Combined, word, factors, combined_leads, leads_combined}
-use Rattle.linear.proofs.Rank.{Apart, apart_few, rank_same, rank_reached, checks_most, all_apart, all_checks}
-use Rattle.linear.proofs.Coded.{Below, below_path, plus, times, nought, unity, codes_field, code, code_is, total_is}
+use Rattle.linear.proofs.Higher.{word, factors, combined_leads, leads_combined}
+use Rattle.linear.proofs.Rank.{Apart, apart_few, rank_reached, checks_most, all_apart, all_checks}
+use Rattle.linear.proofs.Coded.{Below, below_path, times, nought, codes_field, code, code_is, total_is}
 use Rattle.linear.proofs.Search.{columns_told, rows_told}
 use Rattle.linear.proofs.RankFound.{rank_value}
 

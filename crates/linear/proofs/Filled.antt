@@ -1,16 +1,16 @@
 -- What a reduced matrix tells: its check columns, and the word that the symbols give. Assumes nothing.
-use Rattle.std.proofs.Common.{◌≡◌, ℕ, zero, suc, ◌+◌, ◌*◌, ◌<◌, ◌≤◌, Bool, true, false, cond, not, ◌⊎◌, List, map, length, get_or, set, Some, None, Option, sym, refl, ap, ◌∙◌, subst, ap₂, subst₂, inl, inr, arith}
+use Rattle.std.proofs.Common.{◌≡◌, ℕ, zero, suc, ◌<◌, Bool, true, false, ◌⊎◌, List, get_or, Some, None, Option, sym, refl, ap, ◌∙◌, subst, ap₂, inl, inr, arith}
 use native.Mathlib.Decide.{ℕ_discrete, dec_lt}
 use Rattle.field.specs.Tables.{Tables, Lawful}
 use Rattle.linear.specs.Columns.{combined}
-use Rattle.linear.specs.Elimination.{RowCleared, Cleared, Owned, Reduced, Filled}
-use Rattle.linear.specs.Words.{Codes, Matrix, Entries, Codeword, row_sum}
-use Rattle.linear.proofs.Tests.{last, no_both, is_some, some_same}
-use Rattle.linear.proofs.Ring.{Field, add-zero, mul-zero, mul-one, zero-mul, mul_left_comm, less, less_self, inverse_mul}
-use Rattle.linear.proofs.Sums.{sum, sum_same, sum_zero, sum_one, dot, dot_add, dot_add_left, dot_unit, unit, unit_same, unit_other}
-use Rattle.linear.proofs.Words.{Solves, Leads, Lead, Tells}
-use Rattle.linear.proofs.Coded.{Below, below_path, plus, times, nought, unity, codes_field, code, code_is, total_is}
-use Rattle.linear.proofs.Encoding.{As, held, listed, as_held, as_listed, codes_listed, coded, coded_is, row_as, told, codeword_solves, solves_codeword, solves_held}
+use Rattle.linear.specs.Elimination.{Owned, Reduced, Filled}
+use Rattle.linear.specs.Words.{Codes, Entries, Codeword, row_sum}
+use Rattle.linear.proofs.Tests.{last, is_some, some_same}
+use Rattle.linear.proofs.Ring.{add-zero, mul-zero, mul-one, zero-mul, mul_left_comm, less, less_self}
+use Rattle.linear.proofs.Sums.{sum_same, sum_zero, sum_one, dot, dot_add, dot_unit, unit, unit_same, unit_other}
+use Rattle.linear.proofs.Words.{Leads, Lead}
+use Rattle.linear.proofs.Coded.{Below, below_path, plus, times, nought, unity, codes_field}
+use Rattle.linear.proofs.Encoding.{As, held, listed, as_held, as_listed, codes_listed, coded, coded_is, row_as, told, codeword_solves, solves_codeword}
 use Rattle.linear.proofs.Reduce.{mx}
 
 abbrev pub Owner : ℕ → List (Option ℕ) → ℕ → Type 0

@@ -1,9 +1,9 @@
 -- A column leads a word exactly if it is a combination of higher columns. Assumes nothing.
-use Rattle.std.proofs.Common.{◌≡◌, ℕ, zero, suc, ◌+◌, ◌<◌, ◌≤◌, Bool, true, false, cond, not, ◌&&◌, eqb, ltb, ◌⊎◌, sym, refl, ap, ◌∙◌, subst, ap₂, inl, inr, arith, ltb-false, ltb-true, le-ltb, lt-ltb}
+use Rattle.std.proofs.Common.{◌≡◌, ℕ, ◌<◌, ◌≤◌, Bool, true, false, cond, ltb, sym, ap, ◌∙◌, ap₂, arith, le-ltb, lt-ltb}
 use native.Mathlib.Decide.{ℕ_discrete, dec_lt}
-use Rattle.linear.proofs.Ring.{Field, add-zero, mul-zero, mul-one, zero-mul, less, less_self, less_zero, less_up, cancel, inverse_mul}
+use Rattle.linear.proofs.Ring.{Field, add-zero, mul-zero, less, less_self, less_zero, cancel}
 use Rattle.linear.proofs.Sums.{sum, sum_same, dot, dot_add, unit, unit_same, unit_other, dot_unit}
-use Rattle.linear.proofs.Words.{Solves, Leads, Lead}
+use Rattle.linear.proofs.Words.{Leads}
 
 module _ {C : Type 0} {◌⊕◌ ◌⊗◌ : C → C → C} {𝟘 𝟙 : C} (F : Field ◌⊕◌ ◌⊗◌ 𝟘 𝟙) where
   infixl 65 ◌⊕◌

@@ -2,9 +2,8 @@
 use Rattle.std.proofs.Common.{◌≡◌, ℕ, ◌-◌, ◌<◌, ◌≤◌, Bool, true, false, List, length, get_or, sym, refl, ap, ◌∙◌, subst, arith}
 use Rattle.field.specs.Tables.{Tables, Lawful}
 use Rattle.linear.specs.Columns.{combined, information_columns, Carries}
-use Rattle.linear.specs.Count.{count}
-use Rattle.linear.specs.Encoded.{Encoded, the_word, symbols_of, picked}
-use Rattle.linear.specs.Laws.{Laws, LawsStand}
+use Rattle.linear.specs.Encoded.{Encoded, the_word, symbols_of}
+use Rattle.linear.specs.Laws.{LawsStand}
 use Rattle.linear.specs.Rows.{dependent}
 use Rattle.linear.specs.Words.{Codes, Codeword, Entries, Matrix}
 use Rattle.linear.proofs.Chosen.{encoded_is}

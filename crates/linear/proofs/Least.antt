@@ -2,7 +2,7 @@
 use Rattle.std.proofs.Common.{◌≡◌, ℕ, zero, suc, ◌+◌, ◌<◌, ◌≤◌, Bool, true, false, cond, eqb, ltb, Some, None, Option, sym, refl, ap, ◌∙◌, subst, arith, lt-ltb, eq-eqb, eqb-true}
 use Rattle.field.specs.Tables.{Tables, Lawful, first, least}
 use Rattle.field.proofs.Derived.{opposite_at, inverse_at}
-use Rattle.linear.proofs.Tests.{last, no_both}
+use Rattle.linear.proofs.Tests.{no_both}
 
 pub record First (p : ℕ → Bool) (i n b : ℕ) : Type 0 where
   pub low : i ≤ b

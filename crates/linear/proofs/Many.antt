@@ -1,11 +1,10 @@
 -- Fewer rows than columns leave a word that is not zero. Assumes nothing.
-use Rattle.std.proofs.Common.{◌≡◌, ℕ, zero, suc, ◌+◌, ◌<◌, ◌≤◌, Bool, true, false, cond, not, ◌&&◌, eqb, ◌⊎◌, sym, refl, ap, ◌∙◌, subst, ap₂, inl, inr, arith}
-use native.Mathlib.Decide.{ℕ_discrete}
+use Rattle.std.proofs.Common.{◌≡◌, ℕ, zero, suc, ◌<◌, ◌≤◌, Bool, true, false, cond, not, ◌&&◌, eqb, ◌⊎◌, sym, refl, ap, ◌∙◌, subst, inl, inr, arith}
 use Rattle.linear.specs.Count.{count}
-use Rattle.linear.proofs.Tests.{last, eqb_same, eqb_is, eqb_not, no_both}
+use Rattle.linear.proofs.Tests.{last, eqb_same, no_both}
 use Rattle.linear.proofs.Counts.{counted, count_others}
-use Rattle.linear.proofs.Ring.{Field, mul_left_comm, add-zero, mul-zero, mul-one, zero-mul, less, less_self, inverse_mul}
-use Rattle.linear.proofs.Sums.{sum, sum_zero, dot, dot_add, dot_add_left, dot_mul, dot_zero, unit, unit_same, unit_other, dot_unit}
+use Rattle.linear.proofs.Ring.{Field, mul_left_comm, add-zero, mul-zero, zero-mul, less, less_self, inverse_mul}
+use Rattle.linear.proofs.Sums.{sum_zero, dot, dot_add, dot_add_left, unit, unit_same, unit_other, dot_unit}
 
 but : (ℕ → Bool) → ℕ → ℕ → Bool
 but test p x = test x && not (eqb x p)

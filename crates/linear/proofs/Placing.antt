@@ -1,12 +1,11 @@
 -- The steps of placing and filling. Assumes nothing.
-use Rattle.std.proofs.Common.{◌≡◌, ℕ, zero, suc, ◌+◌, ◌-◌, ◌*◌, ◌<◌, ◌≤◌, Bool, true, false, cond, not, eqb, ◌≢◌, ◌⊎◌, List, length, get_or, set, Some, None, Option, sym, refl, ap, ◌∙◌, subst, ap₂, inl, inr, add-one, arith, length-set, get_or-set_other, get_or-set_same, eq-eqb, eqb-true}
-use native.Mathlib.Decide.{ℕ_discrete, dec_lt}
+use Rattle.std.proofs.Common.{◌≡◌, ℕ, zero, suc, ◌+◌, ◌<◌, Bool, true, false, cond, not, ◌⊎◌, List, length, get_or, set, Some, None, Option, sym, refl, ap, ◌∙◌, subst, ap₂, inl, inr, add-one, arith, length-set, get_or-set_other, get_or-set_same, eq-eqb, eqb-true}
+use native.Mathlib.Decide.{ℕ_discrete}
 use Rattle.field.specs.Tables.{Tables, Lawful}
-use Rattle.field.specs.Every.{some_below}
 use Rattle.field.proofs.Tested.{some_below_at, some_below_true, some_below_none}
 use Rattle.linear.specs.Columns.{combined}
 use Rattle.linear.specs.Count.{count}
-use Rattle.linear.specs.Elimination.{Owned, Reduced, Filled}
+use Rattle.linear.specs.Elimination.{Owned, Reduced}
 use Rattle.linear.specs.Filling.{owns, owned_by, free_of, Placed, FilledTo, part_sum, Gathered}
 use Rattle.linear.specs.Words.{total, Codes, Matrix, Entries, Codeword, row_sum}
 use Rattle.linear.proofs.Tests.{last, no_both, none_some, some_same}

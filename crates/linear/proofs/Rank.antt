@@ -1,13 +1,13 @@
 -- The columns that no word begins with are as many as the most rows that stand apart. Assumes nothing.
-use Rattle.std.proofs.Common.{◌≡◌, ℕ, zero, suc, ◌+◌, ◌<◌, ◌≤◌, Bool, true, false, cond, not, ◌&&◌, ◌⊎◌, sym, refl, ap, ◌∙◌, subst, ap₂, inl, inr, arith}
-use native.Mathlib.Decide.{ℕ_discrete, dec_le}
+use Rattle.std.proofs.Common.{◌≡◌, ℕ, ◌<◌, ◌≤◌, Bool, true, false, not, sym, refl, ap, ◌∙◌, arith}
+use native.Mathlib.Decide.{dec_le}
 use Rattle.linear.specs.Count.{count}
-use Rattle.linear.proofs.Tests.{last, no_both}
+use Rattle.linear.proofs.Tests.{no_both}
 use Rattle.linear.proofs.Counts.{count_all, count_most, count_whole}
-use Rattle.linear.proofs.Ring.{Field, mul_left_comm, add-zero, mul-zero, mul-one, zero-mul}
-use Rattle.linear.proofs.Sums.{sum, sum_same, sum_mul, sum_one, sum_turn, dot, dot_zero, unit, unit_same, unit_other}
-use Rattle.linear.proofs.Words.{Solves, Lead, Tells, Carries, zero_word, some_word_is}
-use Rattle.linear.proofs.Many.{Nonzero, more_columns}
+use Rattle.linear.proofs.Ring.{Field, mul_left_comm, mul-zero, mul-one, zero-mul}
+use Rattle.linear.proofs.Sums.{sum, sum_same, sum_mul, sum_one, sum_turn, dot, unit, unit_same, unit_other}
+use Rattle.linear.proofs.Words.{Solves, Tells, Carries, zero_word, some_word_is}
+use Rattle.linear.proofs.Many.{more_columns}
 
 pub turned : {C : Type 0} → (ℕ → ℕ → C) → ℕ → ℕ → C
 turned H c r = H r c

@@ -1,5 +1,5 @@
 -- The rank as a relation is the rank as a value. Assumes nothing.
-use Rattle.std.proofs.Common.{◌≡◌, ℕ, zero, suc, ◌+◌, ◌<◌, ◌≤◌, Bool, true, false, cond, not, ◌&&◌, eqb, List, map, length, get_or, sym, refl, ap, ◌∙◌, subst, ap₂, arith, eq-eqb, eqb-true}
+use Rattle.std.proofs.Common.{◌≡◌, ℕ, zero, suc, ◌<◌, ◌≤◌, Bool, true, false, cond, not, ◌&&◌, eqb, List, map, get_or, sym, refl, ap, ◌∙◌, subst, ap₂, arith, eq-eqb, eqb-true}
 use native.Mathlib.Decide.{ℕ_discrete}
 use Rattle.std.specs.List.{range_with_len}
 use Rattle.std.proofs.lemmas.List.FromFn.{length-map-range_with_len, get_or-map-range_with_len}
@@ -7,11 +7,11 @@ use Rattle.field.specs.Tables.{Tables}
 use Rattle.field.specs.Every.{every_below, some_below}
 use Rattle.field.proofs.Tested.{some_below_at, some_below_true, every_below_at, and_true}
 use Rattle.linear.specs.Count.{count}
-use Rattle.linear.specs.Rank.{Vanishing, Independent, Rank, selected, vanishes, stands_apart, largest, rank_of}
+use Rattle.linear.specs.Rank.{Independent, Rank, selected, vanishes, stands_apart, largest, rank_of}
 use Rattle.linear.specs.Rows.{rows_sum}
 use Rattle.linear.specs.Search.{some_word}
 use Rattle.linear.specs.Words.{Codes, Matrix}
-use Rattle.linear.proofs.Tests.{no_both, eqb_not, eqb_same}
+use Rattle.linear.proofs.Tests.{no_both, eqb_not}
 use Rattle.linear.proofs.Counts.{count_most, count_same}
 use Rattle.linear.proofs.Search.{some_word_at, some_word_true, every_true}
 

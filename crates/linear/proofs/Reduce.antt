@@ -1,16 +1,15 @@
 -- The steps of the reduction, and what a reduced matrix tells. Assumes nothing.
-use Rattle.std.proofs.Common.{◌≡◌, ℕ, zero, suc, ◌+◌, ◌-◌, ◌*◌, ◌<◌, ◌≤◌, Bool, true, false, cond, not, ◌≢◌, ◌⊎◌, List, map, length, get_or, set, Some, None, Option, sym, refl, ap, ◌∙◌, subst, ap₂, subst₂, inl, inr, arith, get_or-set_other, get_or-set_same}
-use native.Mathlib.Decide.{ℕ_discrete, dec_lt}
+use Rattle.std.proofs.Common.{◌≡◌, ℕ, suc, ◌-◌, ◌<◌, ◌≤◌, List, length, get_or, set, Some, None, Option, sym, ap, ◌∙◌, subst, ap₂, subst₂, arith, get_or-set_other, get_or-set_same}
+use native.Mathlib.Decide.{ℕ_discrete}
 use Rattle.field.specs.Tables.{Tables, Lawful}
-use Rattle.linear.specs.Columns.{combined}
-use Rattle.linear.specs.Elimination.{RowCleared, Cleared, Owned, Reduced, Filled}
-use Rattle.linear.specs.Words.{Codes, Matrix, Entries, Codeword, row_sum}
+use Rattle.linear.specs.Elimination.{RowCleared, Cleared, Owned, Reduced}
+use Rattle.linear.specs.Words.{Matrix, Entries, Codeword}
 use Rattle.linear.proofs.Tests.{none_some, some_same}
-use Rattle.linear.proofs.Ring.{Field, add-zero, mul-zero, zero-mul}
-use Rattle.linear.proofs.Sums.{sum, sum_same, sum_zero, dot, dot_add, dot_add_left, dot_unit, unit, unit_same, unit_other}
-use Rattle.linear.proofs.Words.{Solves, Leads, Lead, Tells}
-use Rattle.linear.proofs.Coded.{Below, below_path, plus, times, nought, unity, codes_field, code, code_is, total_is}
-use Rattle.linear.proofs.Encoding.{As, held, listed, as_held, as_listed, codes_listed, coded, coded_is, row_as, told, codeword_solves, solves_codeword, solves_held}
+use Rattle.linear.proofs.Ring.{add-zero, mul-zero}
+use Rattle.linear.proofs.Sums.{sum_same, dot, dot_add_left}
+use Rattle.linear.proofs.Words.{Solves}
+use Rattle.linear.proofs.Coded.{Below, below_path, plus, times, nought, codes_field}
+use Rattle.linear.proofs.Encoding.{held, coded, coded_is, codeword_solves, solves_held}
 
 abbrev pub mx : ℕ → ℕ → (ℕ → ℕ → ℕ) → Matrix
 mx m n R = record { rows = m; columns = n; entry = R }

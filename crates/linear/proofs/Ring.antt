@@ -1,5 +1,5 @@
 -- A field over any type, and what follows of its sums and products. Assumes nothing.
-use Rattle.std.proofs.Common.{◌≡◌, ◌≢◌, sym, refl, ap, ◌∙◌, subst, ap₂}
+use Rattle.std.proofs.Common.{◌≡◌, sym, ap, ◌∙◌, ap₂}
 
 module _ {C : Type 0} (◌⊕◌ ◌⊗◌ : C → C → C) (𝟘 𝟙 : C) where
   infixl 65 ◌⊕◌

@@ -1,10 +1,10 @@
 -- A search over all words finds one exactly if there is one. Assumes nothing.
-use Rattle.std.proofs.Common.{◌≡◌, ℕ, zero, suc, ◌+◌, ◌<◌, ◌≤◌, Bool, true, false, cond, not, ◌&&◌, eqb, List, [], ◌∷◌, length, get_or, sym, refl, ap, ◌∙◌, subst, ap₂, le_of_suc-le-suc, not-suc-le-zero, arith, eq-eqb, eqb-true}
+use Rattle.std.proofs.Common.{◌≡◌, ℕ, zero, suc, ◌<◌, Bool, true, false, not, ◌&&◌, eqb, List, [], ◌∷◌, get_or, refl, ap, ap₂, le_of_suc-le-suc, not-suc-le-zero, arith, eq-eqb, eqb-true}
 use native.Mathlib.Decide.{ℕ_discrete}
 use Rattle.field.specs.Every.{every_below, some_below}
 use Rattle.field.specs.Tables.{Tables}
 use Rattle.field.proofs.Tested.{some_below_at, some_below_true, some_below_none, every_below_at, and_true}
-use Rattle.linear.specs.Columns.{Combination, combined, higher_sum}
+use Rattle.linear.specs.Columns.{combined, higher_sum}
 use Rattle.linear.specs.Laws.{ColumnTold, RowsTold}
 use Rattle.linear.specs.Rows.{rows_sum, gives_zero, dependent, row_fails}
 use Rattle.linear.proofs.Tests.{eqb_not, no_both}

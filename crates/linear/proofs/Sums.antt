@@ -1,7 +1,7 @@
 -- Sums over the numbers below n, and how many pass a test. Assumes nothing.
-use Rattle.std.proofs.Common.{◌≡◌, ℕ, zero, suc, ◌+◌, ◌<◌, ◌≤◌, Bool, true, false, cond, eqb, ◌⊎◌, sym, refl, ap, ◌∙◌, subst, ap₂, inl, inr, arith}
+use Rattle.std.proofs.Common.{◌≡◌, ℕ, zero, suc, ◌<◌, cond, eqb, ◌⊎◌, sym, refl, ap, ◌∙◌, ap₂, inl, inr, arith}
 use Rattle.linear.proofs.Tests.{last, eqb_same, eqb_not}
-use Rattle.linear.proofs.Ring.{Field, add_left_comm, add-zero, mul-zero, zero-mul, add-mul, mul_left_comm}
+use Rattle.linear.proofs.Ring.{Field, add_left_comm, add-zero, mul-zero, mul_left_comm}
 
 module _ {C : Type 0} {◌⊕◌ ◌⊗◌ : C → C → C} {𝟘 𝟙 : C} (F : Field ◌⊕◌ ◌⊗◌ 𝟘 𝟙) where
   infixl 65 ◌⊕◌

@@ -1,12 +1,12 @@
 -- The whole of encoding: reduce, place, finish. Assumes nothing.
-use Rattle.std.proofs.Common.{◌≡◌, ℕ, zero, suc, ◌+◌, ◌<◌, ◌≤◌, Bool, true, false, cond, not, ◌⊎◌, List, length, get_or, Some, None, Option, sym, refl, ap, ◌∙◌, subst, ap₂, inl, inr, arith}
+use Rattle.std.proofs.Common.{◌≡◌, ℕ, ◌<◌, ◌≤◌, Bool, true, false, not, List, length, get_or, Option, sym, refl, ap, ◌∙◌, arith}
 use Rattle.field.specs.Tables.{Tables, Lawful}
 use Rattle.linear.specs.Columns.{combined, information_columns, Carries}
 use Rattle.linear.specs.Count.{count}
-use Rattle.linear.specs.Elimination.{Owned, Reduced, Filled}
+use Rattle.linear.specs.Elimination.{Reduced, Filled}
 use Rattle.linear.specs.Encoded.{Encoded}
 use Rattle.linear.specs.Filling.{owned_by, free_of, Placed, FilledTo, Gathered}
-use Rattle.linear.specs.Words.{Codes, Matrix, Entries, Codeword, row_sum}
+use Rattle.linear.specs.Words.{Codes, Entries}
 use Rattle.linear.proofs.Tests.{no_both}
 use Rattle.linear.proofs.Counts.{count_same}
 use Rattle.linear.proofs.Reduce.{mx}

@@ -1,8 +1,8 @@
 -- Words that satisfy every row, and the columns that lead one. Assumes nothing.
-use Rattle.std.proofs.Common.{◌≡◌, ℕ, zero, suc, ◌+◌, ◌<◌, ◌≤◌, Bool, true, false, cond, ◌⊎◌, sym, refl, ap, ◌∙◌, subst, ap₂, inl, inr, arith}
+use Rattle.std.proofs.Common.{◌≡◌, ℕ, zero, suc, ◌<◌, ◌≤◌, Bool, true, false, sym, refl, ap, ◌∙◌, subst, ap₂, inl, inr, arith}
 use Rattle.linear.proofs.Tests.{last, no_both}
-use Rattle.linear.proofs.Ring.{Field, add-zero, mul-zero, mul-one, zero-mul, less, less_self, less_zero, less_up, inverse_mul}
-use Rattle.linear.proofs.Sums.{sum, dot, dot_add, dot_mul, dot_zero}
+use Rattle.linear.proofs.Ring.{Field, add-zero, mul-zero, mul-one, less, less_self, less_zero, less_up, inverse_mul}
+use Rattle.linear.proofs.Sums.{dot, dot_add, dot_mul, dot_zero}
 
 module _ {C : Type 0} {◌⊕◌ ◌⊗◌ : C → C → C} {𝟘 𝟙 : C} (F : Field ◌⊕◌ ◌⊗◌ 𝟘 𝟙) where
   infixl 65 ◌⊕◌

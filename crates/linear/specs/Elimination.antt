@@ -1,7 +1,7 @@
 -- How far a matrix is reduced: one column after another, from the last down, is left to a single row, its owner. Assumes nothing.
-use Rattle.std.specs.Prelude.{◌≡◌, ℕ, zero, suc, ◌+◌, ◌*◌, ◌<◌, ◌≤◌, ◌⊎◌, List, length, Some, None, Option, slice_index, slice_index_or}
+use Rattle.std.specs.Prelude.{◌≡◌, ℕ, ◌<◌, ◌≤◌, ◌⊎◌, List, Some, None, Option, slice_index, slice_index_or}
 use Rattle.field.specs.Tables.{Tables}
-use Rattle.linear.specs.Words.{Matrix, Entries, Codes, Codeword, row_sum}
+use Rattle.linear.specs.Words.{Matrix, Entries, Codeword, row_sum}
 
 -- row r and a multiple of row i, which makes its entry in column c zero
 pub record RowCleared (t : Tables) (R S : Matrix) (i c r : ℕ) : Type 0 where

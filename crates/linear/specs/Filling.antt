@@ -1,5 +1,5 @@
 -- Symbols put into the columns that no row owns, and the owned columns filled row by row. Assumes nothing.
-use Rattle.std.specs.Prelude.{◌≡◌, ℕ, zero, suc, ◌+◌, ◌*◌, ◌<◌, ◌≤◌, Bool, true, false, not, List, length, Some, None, Option, ◌==◌, slice_index, slice_index_or}
+use Rattle.std.specs.Prelude.{◌≡◌, ℕ, ◌<◌, Bool, true, false, not, List, Some, None, Option, ◌==◌, slice_index, slice_index_or}
 use Rattle.field.specs.Tables.{Tables}
 use Rattle.field.specs.Every.{some_below}
 use Rattle.linear.specs.Count.{count}

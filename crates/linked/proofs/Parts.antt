@@ -1,5 +1,5 @@
 -- A part that is counted lies within the whole.
-use Rattle.std.proofs.Common.{ℕ, suc, ◌+◌, ◌*◌, ◌/◌, ◌<◌, ◌≤◌, Bool, true, false, cond, eqb, le_trans, mul-le-mul_right, suc-mul, div-mul-le_self, arith}
+use Rattle.std.proofs.Common.{ℕ, ◌+◌, ◌*◌, ◌/◌, ◌<◌, ◌≤◌, Bool, true, false, cond, eqb, le_trans, mul-le-mul_right, suc-mul, div-mul-le_self, arith}
 use Rattle.linked.specs.Frames.{parts}
 
 by_size : (none : Bool) (len size i : ℕ) → i < cond none 0 (len / size) → i * size + size ≤ len

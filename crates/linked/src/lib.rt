@@ -1,4 +1,6 @@
 // The decoder for programs in C or Rust: frames of one code over a binary field, one after another.
+#![tactic(auto)]
+
 mod batch;
 mod decode;
 mod export;

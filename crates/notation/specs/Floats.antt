@@ -1,5 +1,5 @@
 -- A float as text. What a text says is the standard library's rule. Assumes nothing.
-use Rattle.std.specs.Prelude.{◌≡◌, ℕ, false, List, Some, None, Ok, IsUtf8, Option, Result, Float}
+use Rattle.std.specs.Prelude.{◌≡◌, ℕ, false, List, Some, None, Ok, IsUtf8, Option, Float}
 use Rattle.std.specs.Float.{binary32}
 use Rattle.std.specs.Float.Parse.{is_float_text, ParsesFloat}
 

@@ -1,3 +1,5 @@
+#![tactic(auto)]
+
 mod floats;
 mod names;
 mod numbers;

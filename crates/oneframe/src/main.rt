@@ -1,3 +1,5 @@
+#![tactic(auto)]
+
 use code::code::Code;
 use code::code::admit::admit;
 use code::table::{Edge, Entry, Header};

@@ -1,7 +1,7 @@
 -- Remainder and opposite modulo q without a division. Assumes nothing.
-use Rattle.std.proofs.Common.{◌≡◌, ℕ, ◌+◌, ◌-◌, ◌%◌, ◌<◌, ◌≤◌, true, Some, sym, ap, ◌∙◌, mod-eq_of_lt, arith, lt-ltb}
+use Rattle.std.proofs.Common.{◌≡◌, ℕ, ◌+◌, ◌-◌, ◌%◌, ◌<◌, ◌≤◌, true, Some, sym, ap, ◌∙◌, mod-eq_of_lt, arith}
 use native.Mathlib.Nat.{mod-eq-sub-mod, mod_self, zero-mod}
-use Rattle.field.specs.Tables.{sum_of, opposite_of}
+use Rattle.field.specs.Tables.{opposite_of}
 use Rattle.field.proofs.Unique.{opposite_is}
 use Rattle.prime.specs.Primes.{is_prime, prime_tables}
 use Rattle.prime.specs.Laws.{prime_laws}

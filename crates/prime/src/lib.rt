@@ -1,3 +1,5 @@
+#![tactic(auto)]
+
 mod residues;
 
 pub use residues::Prime;

@@ -1,25 +1,22 @@
 -- A sheet of an admitted code is read as that code.
-use Rattle.std.proofs.Common.{◌≡◌, ℕ, zero, suc, ◌+◌, ◌<◌, ◌≤◌, true, false, ◌⊎◌, List, [], ◌∷◌, ◌++◌, length, get_or, Some, None, Ok, Err, decimal, Option, Result, sym, refl, ap, ◌∙◌, subst, inl, inr, ⊎_elim, arith}
+use Rattle.std.proofs.Common.{◌≡◌, ℕ, zero, suc, ◌<◌, ◌≤◌, true, List, [], ◌∷◌, ◌++◌, length, Some, Ok, decimal, sym, refl, ap, ◌∙◌, subst, ⊎_elim, arith}
 use Rattle.std.specs.List.{flat_map, slice_get}
 use Rattle.std.proofs.lemmas.List.{append_assoc}
 use Rattle.std.proofs.lemmas.Fmt.{digits_decimal}
 use Rattle.code.specs.declared.table.Edge.{Edge}
 use Rattle.code.specs.declared.table.Entry.{Entry}
 use Rattle.code.specs.declared.table.Header.{Header}
-use Rattle.code.specs.Admission.{admission}
 use Rattle.code.proofs.Lawfully.{admitted_exactly}
 use Rattle.code.specs.Rules.{Rules, HeaderFits, EdgeFits, EntryFits}
 use Rattle.sheet.specs.declared.fault.Place.{Place}
-use Rattle.sheet.specs.declared.fault.SheetFault.{SheetFault}
 use Rattle.sheet.specs.declared.token.Kind.TheVariants as kind
 use Rattle.sheet.specs.declared.line.Due.{Due}
 use Rattle.sheet.specs.declared.line.Due.TheVariants as due
-use Rattle.sheet.specs.declared.line.Record.{Record}
 use Rattle.sheet.specs.declared.line.Record.TheVariants as rec
-use Rattle.sheet.specs.Pieces.{split, lines, fields}
+use Rattle.sheet.specs.Pieces.{split}
 use Rattle.sheet.specs.Words.{word_of}
 use Rattle.sheet.specs.Lines.{◌>>=◌, cell, is_due, kind_due, header_of, edge_of, entry_of, header_from, edge_from, entry_from, header_line, record_line}
-use Rattle.sheet.specs.Reading.{Reading, ended, with_edge, with_entry, below, closing, step, walk, onward, top, from, reading, numbers, judged, admitted, answer}
+use Rattle.sheet.specs.Reading.{Reading, ended, with_edge, with_entry, below, closing, step, walk, onward, top, from, reading, admitted, answer}
 use Rattle.sheet.specs.Grammar.{tabbed, header_text, edge_text, entry_text, end_text, Spelled, Sheet, ReadsBack, Inverts}
 use Rattle.sheet.proofs.Tests.{on, due_ok}
 use Rattle.sheet.proofs.Splits.{split_some}

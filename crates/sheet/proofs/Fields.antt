@@ -1,10 +1,10 @@
 -- Where the fields of a line stand, one after another.
-use Rattle.std.proofs.Common.{◌≡◌, ℕ, zero, suc, ◌+◌, ◌-◌, ◌<◌, ◌≤◌, Bool, true, false, cond, ◌&&◌, eqb, leb, ◌⊎◌, List, [], ◌∷◌, length, get_or, take, drop, sym, refl, ap, ◌∙◌, inl, inr, ⊎_elim, add-one, arith}
+use Rattle.std.proofs.Common.{◌≡◌, ℕ, zero, suc, ◌+◌, ◌<◌, ◌≤◌, Bool, true, false, cond, ◌&&◌, eqb, leb, List, [], ◌∷◌, length, get_or, drop, sym, refl, ap, ◌∙◌, ⊎_elim, arith}
 use Rattle.std.proofs.lemmas.List.{get_or-drop, drop-drop, length-drop}
-use Rattle.std.proofs.lemmas.Bool.{cases_lt, cond_both}
+use Rattle.std.proofs.lemmas.Bool.{cases_lt}
 use Rattle.sheet.specs.declared.fault.Place.{Place}
-use Rattle.sheet.specs.Pieces.{cut, split, first, start}
-use Rattle.sheet.specs.Words.{Word, letter, number, dash, bytes_of, word_of, Cell}
+use Rattle.sheet.specs.Pieces.{split, first, start}
+use Rattle.sheet.specs.Words.{letter, number, dash, bytes_of, word_of, Cell}
 use Rattle.sheet.specs.Lines.{cell, cell_at}
 use Rattle.sheet.proofs.Splits.{first_within, split_some, split_rest, split_last}
 

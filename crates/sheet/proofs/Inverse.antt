@@ -1,5 +1,5 @@
 -- What a line that is read as a record looks like.
-use Rattle.std.proofs.Common.{◌≡◌, ℕ, zero, suc, ◌+◌, ◌<◌, ◌≤◌, Bool, true, false, cond, eqb, ◌⊎◌, List, [], ◌∷◌, ◌++◌, length, get_or, Some, None, Ok, Err, decimal, Option, Result, sym, refl, ap, ◌∙◌, subst, inl, inr, ⊎_elim, arith}
+use Rattle.std.proofs.Common.{◌≡◌, ℕ, Bool, true, false, cond, eqb, List, [], ◌∷◌, ◌++◌, length, get_or, Some, None, Ok, decimal, Option, sym, refl, ap, ◌∙◌, subst, arith}
 use Rattle.std.proofs.lemmas.Bool.{eqb-true, false≢true}
 use Rattle.code.specs.declared.table.Edge.{Edge}
 use Rattle.code.specs.declared.table.Entry.{Entry}
@@ -12,8 +12,7 @@ use Rattle.sheet.specs.declared.line.Due.TheVariants as due
 use Rattle.sheet.specs.declared.line.Record.{Record}
 use Rattle.sheet.specs.declared.line.Record.TheVariants as rec
 use Rattle.sheet.specs.Pieces.{split, fields}
-use Rattle.sheet.specs.Words.{kind_of}
-use Rattle.sheet.specs.Lines.{◌>>=◌, cell, numeral, ceiling_of, ranged, arity, is_due, kind_due, header_of, edge_of, entry_of, header_from, edge_from, entry_from, header_line, record_line, by_kind}
+use Rattle.sheet.specs.Lines.{cell, numeral, ceiling_of, ranged, arity, is_due, kind_due, header_of, edge_of, entry_of, header_from, edge_from, entry_from, header_line, record_line, by_kind}
 use Rattle.sheet.specs.Grammar.{header_text, edge_text, entry_text, end_text, Spelled}
 use Rattle.sheet.proofs.Tests.{ok_same, passed, Begins, begins, one_letter}
 use Rattle.sheet.proofs.Spelling.{one_byte, numeral_spelled, ceiling_spelled}

@@ -1,5 +1,5 @@
 -- A text that is read without a fault is a sheet.
-use Rattle.std.proofs.Common.{◌≡◌, ℕ, zero, suc, ◌+◌, ◌<◌, ◌≤◌, true, false, List, [], ◌∷◌, ◌++◌, length, Some, None, Ok, Err, Option, Result, sym, refl, ap, ◌∙◌, subst, arith}
+use Rattle.std.proofs.Common.{◌≡◌, ℕ, zero, suc, ◌<◌, true, List, [], ◌∷◌, ◌++◌, length, Some, None, Ok, Err, Option, Result, sym, refl, ap, ◌∙◌, subst, arith}
 use Rattle.std.specs.List.{flat_map}
 use Rattle.std.proofs.lemmas.List.{append_assoc}
 use Rattle.std.proofs.lemmas.Bool.{false≢true}
@@ -16,10 +16,10 @@ use Rattle.sheet.specs.declared.line.Due.TheVariants as due
 use Rattle.sheet.specs.declared.line.Record.{Record}
 use Rattle.sheet.specs.declared.line.Record.TheVariants as rec
 use Rattle.sheet.specs.declared.read.Numbers.{Numbers}
-use Rattle.sheet.specs.Pieces.{split, lines, fields}
+use Rattle.sheet.specs.Pieces.{lines, fields}
 use Rattle.sheet.specs.Lines.{is_due, header_line, record_line}
-use Rattle.sheet.specs.Reading.{Reading, ended, with_edge, with_entry, below, closing, step, walk, onward, top, from, reading, numbers, admitted, judged, answer}
-use Rattle.sheet.specs.Grammar.{header_text, edge_text, entry_text, end_text, Spelled, Sheet, Whole, OnlySheets}
+use Rattle.sheet.specs.Reading.{Reading, below, closing, step, walk, onward, top, from, reading, numbers, admitted, judged}
+use Rattle.sheet.specs.Grammar.{header_text, edge_text, entry_text, end_text, Sheet, OnlySheets}
 use Rattle.sheet.proofs.Tests.{ok_same}
 use Rattle.sheet.proofs.Glue.{glue, glue_split}
 use Rattle.sheet.proofs.Inverse.{edge_line, entry_line, end_line, header_line_is}

@@ -1,12 +1,10 @@
 -- How numbers are spelled: what a field writes, and what is read of it.
-use Rattle.std.proofs.Common.{◌≡◌, ℕ, zero, suc, ◌+◌, ◌-◌, ◌*◌, ◌^◌, ◌<◌, ◌≤◌, Bool, true, false, cond, not, ◌&&◌, eqb, ltb, leb, ◌⊎◌, List, [], ◌∷◌, length, get_or, Some, None, Ok, Err, decimal, Option, Result, sym, refl, ap, ◌∙◌, subst, inl, inr, ⊎_elim, arith}
-use Rattle.std.proofs.lemmas.Bool.{true≢false, cond-true, cond-false, cases_lt, and_from, and_left, and_right, and_parts, and_cases, not-true, not_from_false, eqb-true, eqb-false, leb-true, leb-false, ltb-true, eq-eqb, ne_eqb, le-leb, lt-leb, lt-ltb, both_ways}
+use Rattle.std.proofs.Common.{◌≡◌, ℕ, ◌<◌, ◌≤◌, Bool, true, false, cond, not, ◌&&◌, eqb, ltb, leb, List, [], ◌∷◌, length, get_or, Some, None, Ok, decimal, Option, sym, refl, ap, ◌∙◌, inl, inr, ⊎_elim, arith}
+use Rattle.std.proofs.lemmas.Bool.{true≢false, cond-true, cases_lt, and_from, and_left, and_right, and_parts, and_cases, not-true, not_from_false, eqb-true, leb-true, leb-false, eq-eqb, ne_eqb, le-leb, lt-leb, lt-ltb, both_ways}
 use Rattle.std.proofs.lemmas.Str.Parse.{IsNumeralModel, IsDigitsTest, FoldsDigits, numerals_by_fold, digits_value_short}
 use Rattle.std.proofs.lemmas.Fmt.{decimal_digit, decimal_nonempty, length-decimal-le, first_decimal, digits_decimal, digits_value-decimal, decimal-digits_value}
 use Rattle.sheet.specs.declared.fault.Place.{Place}
-use Rattle.sheet.specs.declared.fault.SheetFault.{SheetFault}
-use Rattle.sheet.specs.declared.fault.SheetFault.TheVariants.{NotWritten, OutOfRange}
-use Rattle.sheet.specs.Words.{Word, letter, number, dash, word_of, Cell, digit, digits, value, written, decimal_of}
+use Rattle.sheet.specs.Words.{letter, number, dash, word_of, Cell, digit, digits, value, written, decimal_of}
 use Rattle.sheet.specs.Lines.{place_of, cell, as_number, as_ceiling, or_not_written, numeral, ceiling_of, ranged}
 use Rattle.sheet.specs.Grammar.{Spelled}
 use Rattle.sheet.proofs.Turns.{digits_at}

@@ -1,8 +1,8 @@
 -- A text cut into pieces: its first piece, and what is left behind it.
-use Rattle.std.proofs.Common.{◌≡◌, ℕ, zero, suc, ◌+◌, ◌-◌, ◌<◌, ◌≤◌, Bool, true, false, eqb, List, [], ◌∷◌, length, get_or, take, drop, sym, refl, ap, ◌∙◌, arith}
+use Rattle.std.proofs.Common.{◌≡◌, ℕ, suc, ◌+◌, ◌-◌, ◌<◌, ◌≤◌, Bool, true, false, eqb, List, [], ◌∷◌, length, get_or, take, drop, sym, refl, ap, ◌∙◌, arith}
 use Rattle.std.proofs.lemmas.List.{at_drop_more, at_drop_all}
 use Rattle.std.proofs.lemmas.Bool.{eq-eqb, ne_eqb}
-use Rattle.sheet.specs.Pieces.{cut, split, first, start}
+use Rattle.sheet.specs.Pieces.{cut, split, first}
 
 -- one byte before the pieces
 head_cut : (t : Bool) (b : ℕ) (bs : List ℕ) (ps : List (List ℕ)) → take (length (get_or ps 0 [])) bs ≡ get_or ps 0 [] → take (length (get_or (cut t b ps) 0 [])) (b ∷ bs) ≡ get_or (cut t b ps) 0 []

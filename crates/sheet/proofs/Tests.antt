@@ -1,5 +1,5 @@
 -- Tests one after another, and the kind of record that is due.
-use Rattle.std.proofs.Common.{◌≡◌, ℕ, zero, suc, ◌+◌, ◌<◌, ◌≤◌, Bool, true, false, cond, ◌&&◌, eqb, ltb, leb, ◌⊎◌, List, [], ◌∷◌, length, get_or, Some, None, Ok, Err, Option, Result, sym, refl, ap, ◌∙◌, inl, inr, ⊎_elim, arith}
+use Rattle.std.proofs.Common.{◌≡◌, ℕ, ◌<◌, ◌≤◌, Bool, true, false, cond, ◌&&◌, eqb, ltb, leb, List, [], length, get_or, Some, None, Ok, Err, Option, Result, sym, refl, ap, ◌∙◌, arith}
 use Rattle.std.proofs.lemmas.Bool.{false≢true, cond-true, cond-false, and_from, and_left, and_right, and_parts, eq-eqb, ne_eqb, eqb-true, leb-true, ltb-true}
 use Rattle.sheet.specs.declared.fault.Place.{Place}
 use Rattle.sheet.specs.declared.fault.SheetFault.{SheetFault}
@@ -8,7 +8,7 @@ use Rattle.sheet.specs.declared.token.Kind.{Kind}
 use Rattle.sheet.specs.declared.token.Kind.TheVariants as kind
 use Rattle.sheet.specs.declared.line.Due.{Due}
 use Rattle.sheet.specs.declared.line.Due.TheVariants as due
-use Rattle.sheet.specs.Words.{Word, letter, number, dash, word_of, Cell, kind_of, record_kind}
+use Rattle.sheet.specs.Words.{letter, number, dash, word_of, Cell, kind_of, record_kind}
 use Rattle.sheet.specs.Lines.{◌>>=◌, place_of, ranged, arity, is_due, or_not_due, kind_due}
 
 -- a test that passes, and one that tells

@@ -1,5 +1,5 @@
 -- One line of a walk over the text, and the tables that are filled so far.
-use Rattle.std.proofs.Common.{◌≡◌, ℕ, zero, suc, ◌+◌, ◌-◌, ◌<◌, ◌≤◌, Bool, true, false, eqb, ◌⊎◌, List, [], ◌∷◌, ◌++◌, length, get_or, take, drop, set, Ok, Err, Result, sym, refl, ap, ◌∙◌, inl, inr, ⊎_elim, arith}
+use Rattle.std.proofs.Common.{◌≡◌, ℕ, suc, ◌+◌, ◌-◌, ◌<◌, ◌≤◌, Bool, true, false, eqb, List, [], ◌∷◌, ◌++◌, length, get_or, take, drop, set, Ok, Err, Result, sym, refl, ap, ◌∙◌, arith}
 use Rattle.std.proofs.lemmas.List.{append-nil, append_assoc, take-append-drop, drop-drop, length-drop, length-append, length-take-le, take_at, take_more_set, drop-set-lt, at_drop_all, length-set}
 use Rattle.code.specs.declared.table.Edge.{Edge}
 use Rattle.code.specs.declared.table.Entry.{Entry}
@@ -9,13 +9,12 @@ use Rattle.sheet.specs.declared.fault.SheetFault.{SheetFault}
 use Rattle.sheet.specs.declared.fault.SheetFault.TheVariants.{Ends, Full}
 use Rattle.sheet.specs.declared.line.Due.{Due}
 use Rattle.sheet.specs.declared.line.Due.TheVariants as due
-use Rattle.sheet.specs.declared.line.Record.{Record}
 use Rattle.sheet.specs.declared.line.Record.TheVariants as rec
 use Rattle.sheet.specs.Pieces.{cut, split, first, lines, fields}
 use Rattle.sheet.specs.Lines.{header_line, record_line}
 use Rattle.sheet.specs.declared.read.Filled.{Filled}
 use Rattle.sheet.specs.Reading.{Reading, ended, with_edge, with_entry, below, closing, step, walk, tables, onward, top, from, reading, filled, counted, filled_of}
-use Rattle.sheet.proofs.Splits.{first_is, first_within, split_some, split_rest, split_last}
+use Rattle.sheet.proofs.Splits.{first_is, split_some, split_rest, split_last}
 
 -- a line with others below it
 pub walk_cons : (l : List ℕ) (ls : List (List ℕ)) (h : Header) (d : Due) (p : Place) (e k : ℕ) → ls ≡ get_or ls 0 [] ∷ drop 1 ls → walk (l ∷ ls) h d p e k ≡ step (record_line d h p (fields l)) p e k (closing ls h (below l p)) (λ d' e' k'. walk ls h d' (below l p) e' k')

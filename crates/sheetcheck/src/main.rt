@@ -1,3 +1,5 @@
+#![tactic(auto)]
+
 use code::table::{Edge, Entry};
 use sheet::fault::{Layer, SheetFault, Spot};
 use sheet::read::{Numbers, read};

@@ -1,12 +1,12 @@
 -- Two fields that stand so on one base agree. Assumes nothing.
-use Rattle.std.proofs.Common.{◌≡◌, ℕ, ◌+◌, ◌*◌, ◌/◌, ◌%◌, ◌<◌, ◌≤◌, sym, ap, ◌∙◌, subst, ap₂, mod-lt, mul-le-mul_left, arith}
+use Rattle.std.proofs.Common.{◌≡◌, ℕ, ◌*◌, ◌/◌, ◌%◌, ◌<◌, ◌≤◌, sym, ap, ◌∙◌, subst, ap₂, mod-lt, mul-le-mul_left, arith}
 use native.Mathlib.Nat.{mod-add-div}
 use Rattle.std.proofs.lemmas.Nat.{div_below}
 use Rattle.field.specs.Tables.{Tables, Lawful}
-use Rattle.tower.specs.Towers.{pack, low_of, high_of, tower_tables}
+use Rattle.tower.specs.Towers.{low_of, high_of, tower_tables}
 use Rattle.tower.specs.Raised.{Agree, Raised}
-use Rattle.tower.specs.Algebra.{low, high, expand_sum, expand_product}
-use Rattle.tower.specs.Codes.{Code, same, add, mul, ring}
+use Rattle.tower.specs.Algebra.{expand_sum, expand_product}
+use Rattle.tower.specs.Codes.{Code, same, ring}
 
 module _ (t : Tables) (lt : Lawful t) (u v : ℕ) (hu : u < t.order) (hv : v < t.order) (s : Tables) (ls : Lawful s) (w : Raised t u v s) where
   wide : t.order < s.order

@@ -1,8 +1,8 @@
 -- The first code in a row of a table, and the rows of two tables that agree. Assumes nothing.
-use Rattle.std.proofs.Common.{◌≡◌, ℕ, zero, suc, ◌+◌, ◌<◌, ◌≤◌, Bool, true, false, cond, eqb, ltb, List, map, get_or, Some, None, Option, unwrap_or, sym, refl, ap, ◌∙◌, inl, inr, arith, lt-ltb}
+use Rattle.std.proofs.Common.{◌≡◌, ℕ, zero, suc, ◌+◌, ◌<◌, ◌≤◌, Bool, true, false, cond, eqb, ltb, List, map, Some, None, Option, unwrap_or, sym, refl, ap, ◌∙◌, inl, inr, arith, lt-ltb}
 use Rattle.std.specs.List.{range_with_len}
 use Rattle.std.proofs.lemmas.Bool.{cases_lt}
-use Rattle.field.specs.Tables.{first, least, at_both}
+use Rattle.field.specs.Tables.{first, least}
 use Rattle.field.proofs.Least.{both, at_both_is, found, none}
 use Rattle.field.proofs.Unique.{least_out}
 use Rattle.field.specs.Grids.{entry, grid, solution, solutions}

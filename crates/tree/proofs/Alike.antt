@@ -1,15 +1,15 @@
 -- Areas that begin with the same words: the calls of a decode answer alike on them. Assumes nothing.
-use Rattle.std.proofs.Common.{◌≡◌, ℕ, zero, suc, pred, ◌+◌, ◌*◌, ◌<◌, ◌≤◌, Bool, true, false, not, ◌&&◌, eqb, ltb, leb, List, length, take, drop, sym, refl, ap, ◌∙◌, subst, ap₂, arith}
+use Rattle.std.proofs.Common.{◌≡◌, ℕ, zero, suc, pred, ◌+◌, ◌<◌, ◌≤◌, Bool, true, false, not, ◌&&◌, eqb, ltb, leb, List, length, take, sym, refl, ap, ◌∙◌, ap₂, arith}
 use Rattle.std.proofs.lemmas.Bool.{leb-true}
 use Rattle.field.specs.Tables.{Tables}
 use Rattle.code.specs.Views.{View}
 use Rattle.tree.specs.Over.{every}
 use Rattle.tree.specs.Places.{Admitted, width, row_of, column_of, coefficient_of}
-use Rattle.tree.specs.Rows.{PairsRule, tabled, round_pairs}
-use Rattle.tree.specs.Frame.{Numbers, numbers_of, same_numbers, Slip, no_slip, loading, running, held_words, area_words, Parts, parts_of, laid, within, decided, row_sum, failing, word_of, Call, rounds, concludes, next_parts, Reply, round_told, word_told, Outcome, granted, refused, no_call, want, want_order, want_numbers, want_area, want_length, outcome}
+use Rattle.tree.specs.Rows.{PairsRule, round_pairs}
+use Rattle.tree.specs.Frame.{numbers_of, same_numbers, Slip, no_slip, loading, running, held_words, area_words, Parts, parts_of, laid, within, decided, row_sum, failing, word_of, rounds, concludes, next_parts, Reply, round_told, word_told, Outcome, granted, want, want_area, outcome}
 use Rattle.tree.specs.Areas.{Holds}
 use Rattle.tree.specs.Decoding.{Alike}
-use Rattle.tree.proofs.Facts.{Facts, facts}
+use Rattle.tree.proofs.Facts.{facts}
 use Rattle.tree.proofs.Folds.{over_same, over_tests}
 use Rattle.tree.proofs.Ranges.{lowest_same, distance_same, to_same, from_same}
 use Rattle.tree.proofs.Rows.{tabled_same}

@@ -1,11 +1,10 @@
 -- What the words of an area mean. Assumes nothing.
-use Rattle.std.proofs.Common.{◌≡◌, ℕ, zero, suc, pred, ◌+◌, ◌-◌, ◌*◌, ◌<◌, ◌≤◌, min, Bool, true, false, ◌&&◌, eqb, ◌↔◌, List, length, get_or, take, drop, sym, refl, ap, ◌∙◌, subst, mul-le-mul_right, arith}
+use Rattle.std.proofs.Common.{◌≡◌, ℕ, suc, pred, ◌+◌, ◌-◌, ◌*◌, ◌<◌, ◌≤◌, min, Bool, true, ◌&&◌, eqb, List, length, get_or, take, drop, sym, refl, subst, mul-le-mul_right, arith}
 use Rattle.std.proofs.lemmas.Bool.{and_parts, eqb-true}
 use Rattle.code.specs.Views.{View}
 use Rattle.tree.specs.Places.{width}
-use Rattle.tree.specs.Rows.{tabled}
-use Rattle.tree.specs.Frame.{Numbers, same_numbers, held_words, Parts, parts_of, laid, stores, told, within}
-use Rattle.tree.specs.Areas.{Holds, AreasAre, AreasStand}
+use Rattle.tree.specs.Frame.{Numbers, same_numbers, held_words, Parts, parts_of, laid, stores, told}
+use Rattle.tree.specs.Areas.{Holds, AreasStand}
 use Rattle.tree.specs.Over.{least_to}
 use Rattle.tree.proofs.Folds.{least_reached, least_under}
 use Rattle.tree.proofs.Rows.{tabled_block}

@@ -1,15 +1,15 @@
 -- What `best` is: the least over the symbols that satisfy the check. Assumes nothing.
-use Rattle.std.proofs.Common.{◌≡◌, ℕ, zero, suc, pred, ◌+◌, ◌<◌, ◌≤◌, min, max, Bool, true, false, cond, eqb, ◌⊎◌, sym, refl, ap, ◌∙◌, subst, ap₂, inl, inr, ⊎_elim, true≢false, arith}
-use Rattle.tree.specs.Over.{over, total, greatest, count, least_to}
+use Rattle.std.proofs.Common.{◌≡◌, ℕ, zero, suc, pred, ◌<◌, ◌≤◌, max, Bool, true, false, cond, eqb, ◌⊎◌, sym, refl, ap, ◌∙◌, ap₂, inl, inr, ⊎_elim, true≢false, arith}
+use Rattle.tree.specs.Over.{over, greatest, least_to}
 use Rattle.field.specs.Tables.{Tables}
-use Rattle.tree.proofs.Laws.{Laws, laws_of}
+use Rattle.tree.proofs.Laws.{Laws}
 use Rattle.code.specs.Views.{View}
-use Rattle.tree.proofs.Facts.{Facts, facts}
+use Rattle.tree.proofs.Facts.{Facts}
 use Rattle.tree.specs.Places.{width, coefficient_of, row_of, others, Other}
 use Rattle.tree.specs.Tree.{Satisfied}
 use Rattle.tree.specs.Decoder.{best, from_check_cost}
 use Rattle.tree.specs.Statement.{Within}
-use Rattle.tree.proofs.Folds.{over_related, over_same, greatest_mono, greatest_within, least_reached, least_under, update, update_same, update_below, counted, count_others, eqb_same, eqb_is, eqb_not, below_suc}
+use Rattle.tree.proofs.Folds.{over_related, over_same, greatest_within, least_reached, least_under, update, update_same, update_below, counted, count_others, eqb_is, below_suc}
 
 -- the products' sum
 unfoldable pub products : Tables → View → ℕ → (ℕ → Bool) → (ℕ → ℕ) → ℕ

@@ -1,17 +1,17 @@
 -- No cost of a round passes nine ceilings. Assumes nothing.
-use Rattle.std.proofs.Common.{◌≡◌, ℕ, zero, suc, pred, ◌+◌, ◌-◌, ◌*◌, ◌<◌, ◌≤◌, min, max, Bool, true, false, cond, not, ◌&&◌, eqb, sym, refl, ap, ◌∙◌, subst, arith}
+use Rattle.std.proofs.Common.{◌≡◌, ℕ, zero, suc, ◌+◌, ◌*◌, ◌<◌, ◌≤◌, Bool, true, false, cond, eqb, refl, arith}
 use Rattle.std.proofs.lemmas.Bool.{eq-eqb}
 use Rattle.field.specs.Tables.{Tables}
 use Rattle.code.specs.Views.{View}
-use Rattle.tree.specs.Over.{over, total, greatest, count}
-use Rattle.tree.specs.Places.{width, column_of, coefficient_of, Place, at_column, at_edge, arms, others}
+use Rattle.tree.specs.Over.{over, total, count}
+use Rattle.tree.specs.Places.{width, column_of, at_column, at_edge, arms, others}
 use Rattle.tree.specs.Tree.{lower}
 use Rattle.tree.specs.Decoder.{from_check_cost, column_sum, less_least, round_to, round_distance}
 use Rattle.tree.specs.Statement.{Loaded, Within}
 use Rattle.tree.proofs.Laws.{Laws}
 use Rattle.tree.proofs.Facts.{Facts}
 use Rattle.tree.proofs.Folds.{greatest_within}
-use Rattle.tree.proofs.Best.{Hit, from_hit}
+use Rattle.tree.proofs.Best.{from_hit}
 use Rattle.tree.proofs.Words.{except}
 
 -- each part of a total is at most 1023

@@ -1,15 +1,14 @@
 -- The check of a row and the check along the tree are one. Assumes nothing.
-use Rattle.std.proofs.Common.{◌≡◌, ℕ, zero, suc, ◌+◌, ◌<◌, ◌≤◌, Bool, true, false, not, ◌&&◌, ◌||◌, eqb, ◌⊎◌, ◌↔◌, sym, refl, ap, ◌∙◌, subst, ap₂, inl, inr, true≢false, arith}
+use Rattle.std.proofs.Common.{◌≡◌, ℕ, ◌<◌, Bool, true, false, not, ◌&&◌, ◌||◌, eqb, ◌⊎◌, sym, refl, ap, ◌∙◌, inl, inr, true≢false, arith}
 use Rattle.std.proofs.lemmas.Bool.{cases_eq, eq-eqb, ne_eqb, eqb-true, and_parts}
 use Rattle.field.specs.Tables.{Tables, Lawful}
 use Rattle.code.specs.Views.{View}
-use Rattle.tree.specs.Over.{over, count}
+use Rattle.tree.specs.Over.{over}
 use Rattle.tree.specs.Places.{Admitted, width, row_of, column_of, coefficient_of, others}
-use Rattle.tree.specs.Tree.{Satisfied}
 use Rattle.tree.specs.Frame.{row_sum}
 use Rattle.tree.specs.Checks.{ChecksAre, ChecksStand}
-use Rattle.tree.proofs.Laws.{Laws, laws_of}
-use Rattle.tree.proofs.Facts.{Facts, facts}
+use Rattle.tree.proofs.Laws.{laws_of}
+use Rattle.tree.proofs.Facts.{facts}
 use Rattle.tree.proofs.Folds.{over_tests, counted}
 use Rattle.tree.proofs.Best.{sum_zero}
 use Rattle.tree.proofs.Joins.{over_union, over_one}

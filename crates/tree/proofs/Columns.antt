@@ -1,18 +1,16 @@
 -- A column's edges are those that its entries name. Assumes nothing.
-use Rattle.std.proofs.Common.{◌≡◌, ℕ, zero, suc, ◌+◌, ◌-◌, ◌<◌, ◌≤◌, Bool, true, false, cond, not, ◌&&◌, eqb, ltb, leb, ◌≢◌, ◌⊎◌, ◌↔◌, List, [], ◌∷◌, length, get_or, Some, None, sym, refl, ap, ◌∙◌, subst, ap₂, inl, inr, true≢false, arith}
+use Rattle.std.proofs.Common.{◌≡◌, ℕ, zero, suc, ◌+◌, ◌-◌, ◌<◌, ◌≤◌, Bool, true, false, cond, not, ◌&&◌, eqb, ltb, leb, ◌≢◌, ◌⊎◌, ◌↔◌, List, [], ◌∷◌, length, get_or, sym, refl, ap, ◌∙◌, subst, inl, inr, true≢false, arith}
 use Rattle.std.proofs.lemmas.Option.{slice_get-get_or}
-use Rattle.std.proofs.lemmas.Bool.{cases_lt, cases_eq, eq-eqb, ne_eqb, eqb-true, eqb-false, and_parts, and_from, le-leb, lt-leb, lt-ltb, le-ltb}
+use Rattle.std.proofs.lemmas.Bool.{cases_lt, eq-eqb, ne_eqb, eqb-true, and_parts, and_from, le-leb, lt-leb, lt-ltb, le-ltb}
 use Rattle.code.specs.declared.table.Edge.{Edge}
-use Rattle.code.specs.declared.table.Entry.{Entry}
-use Rattle.code.specs.Rules.{Rules, Stands, HasEdge, HasEntry, EntryBefore}
+use Rattle.code.specs.Rules.{Stands}
 use Rattle.code.specs.Views.{View}
-use Rattle.tree.specs.Over.{over, total, count}
+use Rattle.tree.specs.Over.{over, total}
 use Rattle.tree.specs.Places.{Admitted, width, no_edge, edge_at, row_of, column_of, at_column, arms}
-use Rattle.tree.specs.Columns.{height, no_entry, entry_at, place_of, edge_of, first_entry, sum_from, ColumnsAre, ColumnsStand}
-use Rattle.tree.proofs.Facts.{Facts, facts, stands}
-use Rattle.tree.proofs.Folds.{below_suc}
+use Rattle.tree.specs.Columns.{height, no_entry, entry_at, place_of, edge_of, first_entry, sum_from, ColumnsStand}
+use Rattle.tree.proofs.Facts.{facts, stands}
 use Rattle.tree.proofs.Words.{nth_at, except, over_none}
-use Rattle.tree.proofs.Cuts.{begins, split, key_in, begins_rise, sum_range}
+use Rattle.tree.proofs.Cuts.{split, key_in, begins_rise, sum_range}
 
 -- ---- a total by another walk over the same positions
 pub total_by : (n m : ℕ) (S T : ℕ → Bool) (σ : ℕ → ℕ) (f : ℕ → ℕ) →

@@ -7,7 +7,7 @@ use Rattle.tree.specs.Places.{Admitted, width}
 use Rattle.tree.specs.Rows.{PairsRule, round_pairs}
 use Rattle.tree.specs.Frame.{Numbers, numbers_of, same_numbers, Slip, no_slip, loading, running, Frame, Words, area_words, parts_of, within, decided, failing, rounds, next_parts, next_slip, Reply, round_told, Outcome, granted, refused, no_call, grants, want, want_numbers, want_area, outcome, obey}
 use Rattle.tree.specs.Run.{History, next_history, Same, Brings, Run, obeyed}
-use Rattle.tree.specs.Decoding.{fails, round_on, is_due, settled, rounds_due, at_end, rounds_to, later, Alike, EndsInTime, RunsOn, OwnRun, DecodingStands}
+use Rattle.tree.specs.Decoding.{fails, round_on, is_due, settled, rounds_due, at_end, rounds_to, later, Alike, OwnRun, DecodingStands}
 use Rattle.tree.proofs.Outcomes.{grants_want}
 use Rattle.tree.proofs.Follow.{effects_theorem}
 use Rattle.tree.proofs.Runs.{run_words, runs_theorem}

@@ -1,11 +1,10 @@
 -- What the rules of admitting say of the edges at their positions. Assumes nothing.
-use Rattle.std.proofs.Common.{◌≡◌, ℕ, zero, suc, ◌+◌, ◌<◌, ◌≤◌, Bool, true, false, cond, eqb, ◌⊎◌, List, length, get_or, take, count_by, sym, refl, ap, ◌∙◌, subst, inl, inr, add-one, arith}
+use Rattle.std.proofs.Common.{◌≡◌, ℕ, zero, suc, ◌+◌, ◌<◌, ◌≤◌, Bool, true, false, cond, eqb, ◌⊎◌, List, length, get_or, take, count_by, refl, ap, ◌∙◌, add-one, arith}
 use Rattle.std.proofs.lemmas.List.{take_all}
 use Rattle.std.proofs.lemmas.Option.{slice_get-get_or}
 use Rattle.std.proofs.lemmas.List.Sums.{count_by_more_yes, count_by_more_no}
-use Rattle.code.specs.declared.table.Edge.{Edge}
 use Rattle.code.specs.Admission.{in_row, in_column}
-use Rattle.code.specs.Rules.{Rules, Stands, EdgeFits, EdgeBefore}
+use Rattle.code.specs.Rules.{Stands, EdgeFits}
 use Rattle.code.specs.Views.{View}
 use Rattle.tree.specs.Over.{over, count}
 use Rattle.tree.specs.Places.{Admitted, width, no_edge, edge_at, row_of, column_of, coefficient_of}

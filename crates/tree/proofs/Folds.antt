@@ -1,6 +1,5 @@
 -- Lemmas on `over` and `least_to`, and a choice at each position. Assumes nothing.
-use Rattle.std.proofs.Common.{◌≡◌, ℕ, zero, suc, ◌+◌, ◌<◌, ◌≤◌, min, max, Bool, true, false, cond, not, ◌&&◌, T, eqb, ◌⊎◌, sym, refl, ap, ◌∙◌, subst, ap₂, inl, inr, arith, eqb→eq}
-use mathlib.Core.Bool.{Bool-discrete}
+use Rattle.std.proofs.Common.{◌≡◌, ℕ, zero, suc, ◌+◌, ◌<◌, ◌≤◌, min, max, Bool, true, false, cond, not, ◌&&◌, T, eqb, refl, subst, ap₂, arith, eqb→eq}
 use native.Mathlib.Decide.{dec_le, dec_lt}
 use lib.Dec.{eqb_refl}
 use Rattle.tree.specs.Over.{over, total, greatest, count, least_to}

@@ -1,23 +1,18 @@
 -- The words of an area by its parts, and that every granted call can be followed in words of 16 bits. Assumes nothing.
-use Rattle.std.proofs.Common.{◌≡◌, ℕ, zero, suc, pred, ◌+◌, ◌-◌, ◌*◌, ◌/◌, ◌%◌, ◌<◌, ◌≤◌, min, Bool, true, false, cond, ◌&&◌, eqb, ltb, leb, ◌⊎◌, ◌↔◌, List, ◌++◌, map, length, get_or, take, drop, sym, refl, ap, ◌∙◌, subst, ap₂, inl, inr, mod-lt, div-lt_iff_lt-mul, div-add-mod', arith, length-append, length-drop, length-take, get_or-drop, get_or-take, drop-drop}
+use Rattle.std.proofs.Common.{◌≡◌, ℕ, suc, ◌+◌, ◌-◌, ◌*◌, ◌/◌, ◌%◌, ◌<◌, ◌≤◌, Bool, true, false, cond, ◌&&◌, eqb, ltb, leb, ◌⊎◌, List, ◌++◌, length, get_or, take, drop, sym, refl, ap, ◌∙◌, subst, ap₂, inl, inr, mod-lt, div-lt_iff_lt-mul, div-add-mod', arith, length-append, length-drop, length-take, get_or-drop, get_or-take, drop-drop}
 use lib.Seq.{take-append_seam, drop-append-add}
-use lib.Arith.{digits_lt}
-use Rattle.std.specs.List.{range_with_len}
 use Rattle.std.proofs.lemmas.List.FromFn.{length-map-range_with_len, get_or-map-range_with_len}
 use Rattle.std.proofs.lemmas.List.{ext_get_or, get_or_past, get_or_append_left, get_or-append_right}
 use Rattle.std.proofs.lemmas.Bool.{cases_lt, cond_both, and_parts, ltb-true, ltb-false, leb-true, eqb-true}
 use Rattle.field.specs.Tables.{Tables, Lawful}
 use Rattle.code.specs.Views.{View}
-use Rattle.tree.specs.Over.{least_to}
 use Rattle.tree.specs.Places.{Admitted, width, column_of}
-use Rattle.tree.specs.Decoder.{from_check_cost, round_to, round_distance}
-use Rattle.tree.specs.Rows.{PairsRule}
-use Rattle.tree.specs.Frame.{Numbers, numbers_of, same_numbers, Slip, no_slip, loading, running, Frame, Words, held_words, area_words, Parts, parts_of, block, laid, Call, opens, loads, starts, rounds, reads, concludes, stores, within, decided, failing, next_parts, next_slip, Reply, slip_given, round_told, Outcome, granted, want, want_order, want_numbers, want_area, outcome, Effect, obey}
+use Rattle.tree.specs.Frame.{numbers_of, same_numbers, Slip, no_slip, loading, running, Frame, Words, held_words, area_words, Parts, parts_of, block, laid, Call, opens, loads, starts, rounds, reads, concludes, stores, within, decided, failing, next_parts, Reply, slip_given, round_told, Outcome, granted, want, want_numbers, want_area, outcome, Effect, obey}
 use Rattle.tree.specs.Areas.{Holds}
 use Rattle.tree.specs.Effects.{Followed, EffectsStand}
 use Rattle.tree.specs.Rows.{round_pairs}
 use Rattle.tree.proofs.Laws.{laws_of}
-use Rattle.tree.proofs.Facts.{Facts, facts}
+use Rattle.tree.proofs.Facts.{facts}
 use Rattle.tree.proofs.Outcomes.{want_is, never, within_is}
 use Rattle.tree.proofs.Bounds.{from_low, distance_low, to_low}
 

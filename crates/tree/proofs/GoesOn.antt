@@ -1,16 +1,16 @@
 -- No run is stuck. Assumes nothing.
-use Rattle.std.proofs.Common.{◌≡◌, ℕ, zero, suc, pred, ◌+◌, ◌<◌, ◌≤◌, Bool, true, false, not, ◌&&◌, eqb, ltb, leb, ◌↔◌, List, length, get_or, sym, refl, ap, ◌∙◌, subst, ap₂, arith}
+use Rattle.std.proofs.Common.{◌≡◌, ℕ, zero, suc, pred, ◌+◌, ◌<◌, Bool, true, not, ◌&&◌, eqb, ltb, leb, List, length, sym, refl, ap, ◌∙◌, subst, arith}
 use Rattle.std.proofs.lemmas.Bool.{and_from, le-leb, eq-eqb, lt-ltb, ltb-true}
-use Rattle.field.specs.Tables.{Tables, Lawful}
+use Rattle.field.specs.Tables.{Tables}
 use Rattle.code.specs.Views.{View}
-use Rattle.tree.specs.Over.{over, count, lowest_to}
-use Rattle.tree.specs.Places.{Admitted, width, row_of, column_of, coefficient_of}
+use Rattle.tree.specs.Over.{lowest_to}
+use Rattle.tree.specs.Places.{width, row_of, column_of, coefficient_of}
 use Rattle.tree.specs.Tree.{lower}
 use Rattle.tree.specs.Decoder.{round_to, round_distance, to_check_cost, distance}
 use Rattle.tree.specs.Statement.{Loaded, Within}
 use Rattle.tree.specs.Rows.{PairsRule, round_pairs}
-use Rattle.tree.specs.Frame.{Numbers, numbers_of, same_numbers, Slip, loading, running, Frame, Parts, parts_of, area_words, Call, loads, starts, rounds, Reply, done, slip_given, round_told, Outcome, granted, grants, want, want_numbers, want_area, want_column, want_length, want_order, outcome, within, decided, row_sum, failing, next_parts}
-use Rattle.tree.specs.Run.{History, Run, Decided, LoadsOn, RoundsOn, GoesOn}
+use Rattle.tree.specs.Frame.{Numbers, numbers_of, same_numbers, loading, running, Parts, parts_of, area_words, rounds, Reply, done, slip_given, round_told, Outcome, granted, grants, want, want_numbers, want_area, want_column, want_length, outcome, within, decided, row_sum, failing, next_parts}
+use Rattle.tree.specs.Run.{History, Decided, LoadsOn, RoundsOn, GoesOn}
 use Rattle.tree.proofs.Facts.{Facts, facts}
 use Rattle.tree.proofs.Folds.{over_same, over_tests}
 use Rattle.tree.proofs.Ranges.{lowest_same, distance_same}

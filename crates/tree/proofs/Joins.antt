@@ -1,17 +1,17 @@
 -- A row's joins give its from-check costs. Assumes nothing.
-use Rattle.std.proofs.Common.{◌≡◌, ℕ, zero, suc, pred, ◌+◌, ◌-◌, ◌<◌, ◌≤◌, max, Bool, true, false, cond, not, ◌&&◌, ◌||◌, eqb, leb, sym, refl, ap, ◌∙◌, subst, ap₂, true≢false, arith}
+use Rattle.std.proofs.Common.{◌≡◌, ℕ, zero, suc, pred, ◌+◌, ◌-◌, ◌<◌, ◌≤◌, max, Bool, true, false, cond, not, ◌&&◌, ◌||◌, eqb, sym, refl, ap, ◌∙◌, subst, ap₂, true≢false, arith}
 use native.Mathlib.Decide.{dec_le}
 use Rattle.tree.specs.Over.{over, greatest}
-use Rattle.field.specs.Tables.{Tables, Lawful}
+use Rattle.field.specs.Tables.{Tables}
 use Rattle.tree.proofs.Laws.{Laws, laws_of}
 use Rattle.code.specs.Views.{View}
 use Rattle.tree.proofs.Facts.{Facts, facts}
-use Rattle.tree.specs.Places.{width, row_of, coefficient_of, others, Other}
+use Rattle.tree.specs.Places.{width, row_of, coefficient_of, others}
 use Rattle.tree.specs.Decoder.{from_check_cost}
 use Rattle.tree.specs.Statement.{Within}
 use Rattle.tree.specs.Join.{Joined, between, RowJoins, JoinsStand}
 use Rattle.tree.proofs.Folds.{over_related, over_same, over_tests, eqb_same, eqb_is, eqb_not, below_suc}
-use Rattle.tree.proofs.Best.{products, products_code, sum_zero, Hit, from_hit, from_under}
+use Rattle.tree.proofs.Best.{products, products_code, sum_zero, from_hit, from_under}
 
 next_test : (i j x : ℕ) → i ≤ suc j → between i (suc j) x ≡ (between i j x || eqb x (suc j))
 next_test i j x h = grind arith

@@ -1,11 +1,10 @@
 -- What a granted call has passed, and what makes one granted. Assumes nothing.
-use Rattle.std.proofs.Common.{◌≡◌, ℕ, zero, suc, pred, ◌+◌, ◌-◌, ◌*◌, ◌<◌, ◌≤◌, min, Bool, true, false, cond, not, ◌&&◌, eqb, ltb, leb, List, length, sym, refl, ap, ◌∙◌, subst, ap₂, true≢false, arith}
-use Rattle.std.proofs.lemmas.Bool.{and_parts, and_from, le-leb, leb-true, eq-eqb, eqb-true, lt-ltb, ltb-true}
+use Rattle.std.proofs.Common.{◌≡◌, ℕ, zero, suc, ◌+◌, ◌<◌, ◌≤◌, Bool, true, false, cond, not, eqb, leb, sym, refl, ap, true≢false, arith}
+use Rattle.std.proofs.lemmas.Bool.{and_parts, and_from, le-leb, leb-true, eq-eqb, eqb-true}
 use Rattle.field.specs.Tables.{Tables}
 use Rattle.code.specs.Views.{View}
 use Rattle.tree.specs.Over.{over, count, every}
-use Rattle.tree.specs.Places.{width}
-use Rattle.tree.specs.Frame.{Numbers, numbers_of, same_numbers, Reply, Outcome, granted, refused, no_call, grants, want, row_sum, failing, within}
+use Rattle.tree.specs.Frame.{Numbers, same_numbers, Reply, Outcome, granted, no_call, grants, want, row_sum, failing, within}
 use Rattle.tree.proofs.Folds.{below_suc}
 
 pub want_is : (b : Bool) (n : ℕ) (o : Outcome) (x : Reply) → want b n o ≡ granted x → (b ≡ true) × (o ≡ granted x)

@@ -1,14 +1,12 @@
 -- What the words of an area are after a call, and that the decoder reads its tables within their range alone. Assumes nothing.
-use Rattle.std.proofs.Common.{◌≡◌, ℕ, zero, suc, pred, ◌+◌, ◌-◌, ◌*◌, ◌/◌, ◌%◌, ◌<◌, ◌≤◌, min, max, Bool, true, false, cond, ◌&&◌, T, eqb, ltb, leb, List, map, length, get_or, take, drop, sym, refl, ap, ◌∙◌, subst, ap₂, true≢false, arith, ltb→lt, lt→ltb, leb→le, get_or-drop, get_or-take}
+use Rattle.std.proofs.Common.{◌≡◌, ℕ, zero, suc, pred, ◌+◌, ◌-◌, ◌*◌, ◌/◌, ◌%◌, ◌<◌, ◌≤◌, min, max, Bool, true, false, ltb, leb, List, get_or, take, sym, refl, ap, ◌∙◌, ap₂, arith, ltb→lt, lt→ltb, leb→le, get_or-take}
 use lib.Arith.{digits_lt, digits_div, digits_mod}
-use native.Mathlib.Decide.{dec_lt}
-use Rattle.std.specs.List.{range_with_len}
 use Rattle.std.proofs.lemmas.List.FromFn.{get_or-map-range_with_len}
-use Rattle.tree.specs.Over.{over, total, least_to, lowest_to, every}
+use Rattle.tree.specs.Over.{least_to, lowest_to}
 use Rattle.field.specs.Tables.{Tables}
 use Rattle.code.specs.Views.{View}
-use Rattle.tree.proofs.Facts.{Facts, facts}
-use Rattle.tree.specs.Places.{Place, at_column, at_edge, place_column, width, column_of, coefficient_of, arms, others}
+use Rattle.tree.proofs.Facts.{Facts}
+use Rattle.tree.specs.Places.{Place, at_column, at_edge, place_column, width, coefficient_of, arms, others}
 use Rattle.tree.specs.Tree.{lower}
 use Rattle.tree.specs.Decoder.{best, from_check_cost, column_sum, less_least, round_to, round_distance}
 use Rattle.tree.specs.Frame.{Parts, parts_of, block, laid, held_words}

@@ -1,6 +1,5 @@
 -- Vectors and a row's joins on them give the from-check costs. Assumes nothing.
-use Rattle.std.proofs.Common.{◌≡◌, ℕ, zero, suc, pred, ◌+◌, ◌-◌, ◌*◌, ◌<◌, ◌≤◌, min, max, Bool, true, false, cond, eqb, ltb, leb, ◌⊎◌, ◌↔◌, List, map, length, get_or, take, drop, Some, None, sym, refl, ap, ◌∙◌, subst, ap₂, inl, inr, true≢false, arith, length-drop, length-take, get_or-drop, get_or-take}
-use Rattle.std.specs.List.{range_with_len}
+use Rattle.std.proofs.Common.{◌≡◌, ℕ, zero, suc, pred, ◌+◌, ◌-◌, ◌*◌, ◌<◌, ◌≤◌, min, max, Bool, true, false, cond, eqb, ltb, ◌⊎◌, ◌↔◌, List, length, get_or, take, drop, sym, refl, ap, ◌∙◌, subst, inl, inr, arith, length-drop, length-take, get_or-drop, get_or-take}
 use Rattle.std.proofs.lemmas.List.FromFn.{length-map-range_with_len, get_or-map-range_with_len}
 use Rattle.std.proofs.lemmas.List.{ext_get_or}
 use Rattle.std.proofs.lemmas.Bool.{cases_lt, eq-eqb, ne_eqb, eqb-true, lt-ltb, le-ltb, ltb-true, ltb-false, cond_both}
@@ -15,7 +14,7 @@ use Rattle.tree.specs.Decoder.{from_check_cost}
 use Rattle.tree.specs.Statement.{Within}
 use Rattle.tree.specs.Join.{Joined, between, RowJoins}
 use Rattle.tree.specs.Rows.{tabled, joined_at, joined, code_in, gathered, spread, read_by, forth, back, around_at, around, first_of, last_of, vectors_of, read_of}
-use Rattle.tree.specs.RowLaws.{VectorsAre, RowsAre, RowsStand}
+use Rattle.tree.specs.RowLaws.{VectorsAre, RowsStand}
 use Rattle.tree.proofs.Facts.{Facts, facts}
 use Rattle.tree.proofs.Folds.{over_tests, below_suc, least_reached, least_under}
 use Rattle.tree.proofs.Joins.{joins_theorem}

@@ -1,19 +1,19 @@
 -- The law over all runs. Assumes nothing.
-use Rattle.std.proofs.Common.{◌≡◌, ℕ, zero, suc, pred, ◌+◌, ◌-◌, ◌*◌, ◌<◌, ◌≤◌, min, Bool, true, false, cond, ◌&&◌, eqb, ltb, leb, ◌↔◌, List, length, get_or, take, drop, sym, refl, ap, ◌∙◌, subst, ap₂, true≢false, arith}
+use Rattle.std.proofs.Common.{◌≡◌, ℕ, suc, pred, ◌<◌, ◌≤◌, true, cond, eqb, ltb, leb, ◌↔◌, List, length, get_or, sym, refl, ap, ◌∙◌, subst, arith}
 use Rattle.std.proofs.lemmas.List.FromFn.{get_or-map-range_with_len, length-map-range_with_len}
 use Rattle.std.proofs.lemmas.Bool.{le-leb, leb-true, eq-eqb, eqb-true, lt-ltb, ltb-true}
 use Rattle.field.specs.Tables.{Tables, Lawful}
 use Rattle.code.specs.Views.{View}
-use Rattle.tree.specs.Over.{over, lowest_to}
+use Rattle.tree.specs.Over.{lowest_to}
 use Rattle.tree.specs.Places.{Admitted, at_column, width, row_of, column_of, coefficient_of}
 use Rattle.tree.specs.Tree.{Filling, symbol, Valid, Cost, Cheapest}
-use Rattle.tree.specs.Decoder.{round_to, round_distance, to_check_cost, distance}
+use Rattle.tree.specs.Decoder.{to_check_cost, distance}
 use Rattle.tree.specs.Statement.{Loaded}
 use Rattle.tree.specs.Rows.{PairsRule, tabled}
-use Rattle.tree.specs.Frame.{Numbers, numbers_of, same_numbers, Slip, no_slip, loading, running, Frame, Words, Parts, parts_of, held_words, area_words, Call, opens, loads, starts, rounds, reads, concludes, Reply, done, slip_given, round_told, column_told, word_told, Outcome, granted, refused, no_call, grants, want, want_numbers, want_area, want_column, want_length, want_order, outcome, stores, decided, row_sum, failing, told, word_of, next_parts, next_slip, Effect}
+use Rattle.tree.specs.Frame.{Numbers, numbers_of, same_numbers, Slip, no_slip, loading, running, Frame, Words, Parts, parts_of, area_words, Call, opens, loads, starts, rounds, reads, concludes, Reply, slip_given, column_told, word_told, Outcome, granted, grants, want, want_numbers, want_area, want_column, want_length, outcome, stores, decided, row_sum, failing, told, word_of, next_parts, next_slip, Effect}
 use Rattle.tree.specs.Run.{History, next_history, Same, Brings, Run, new, obeyed, turned_down, Decided, EveryCheck, ColumnRight, ReadsRight, ConcludesRight, RunsStand}
 use Rattle.tree.proofs.Laws.{laws_of}
-use Rattle.tree.proofs.Facts.{Facts, facts}
+use Rattle.tree.proofs.Facts.{facts}
 use Rattle.tree.proofs.Folds.{over_same, cond_related}
 use Rattle.tree.proofs.Words.{lowest_low, lowest_under, lowest_lowest}
 use Rattle.tree.proofs.Ranges.{lowest_same, after_channel, after_distances, after_to, distance_same, to_same}

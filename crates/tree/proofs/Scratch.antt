@@ -1,10 +1,9 @@
 -- Scratch is free: a frame after a run may hold any words there. Assumes nothing.
-use Rattle.std.proofs.Common.{◌≡◌, ℕ, List, length, take, drop, sym, refl, ap, ◌∙◌, subst, arith}
+use Rattle.std.proofs.Common.{◌≡◌, ℕ, List, sym, refl, ◌∙◌, subst, arith}
 use Rattle.field.specs.Tables.{Tables}
 use Rattle.code.specs.Views.{View}
-use Rattle.tree.specs.Rows.{PairsRule}
-use Rattle.tree.specs.Frame.{Numbers, Slip, no_slip, loading, running, Frame, Words, held_words, area_words, Call, opens, loads, starts, rounds, reads, concludes, next_slip, Effect}
-use Rattle.tree.specs.Run.{History, next_history, Same, Brings, Run, new, obeyed, turned_down}
+use Rattle.tree.specs.Frame.{Numbers, Slip, running, Frame, Words, Call, opens, loads, starts, rounds, reads, concludes, next_slip, Effect}
+use Rattle.tree.specs.Run.{History, next_history, Brings, Run, new, obeyed, turned_down}
 use Rattle.tree.specs.Decoding.{Alike}
 
 -- a call that leaves a running slip brings the code of the history

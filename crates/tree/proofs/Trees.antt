@@ -1,15 +1,15 @@
 -- The tree theorem. Assumes nothing.
-use Rattle.std.proofs.Common.{◌≡◌, ℕ, zero, suc, pred, ◌+◌, ◌-◌, ◌<◌, ◌≤◌, min, max, Bool, true, false, cond, sym, refl, ap, ◌∙◌, subst, ap₂, arith}
+use Rattle.std.proofs.Common.{◌≡◌, ℕ, zero, suc, pred, ◌+◌, ◌-◌, ◌<◌, ◌≤◌, max, true, sym, refl, ap, ◌∙◌, subst, ap₂, arith}
 use mathlib.Core.Bool.{Bool-discrete}
 use native.Mathlib.Decide.{dec_lt}
-use Rattle.tree.specs.Over.{over, total, greatest, least_to}
-use Rattle.field.specs.Tables.{Tables, Lawful}
+use Rattle.tree.specs.Over.{greatest, least_to}
+use Rattle.field.specs.Tables.{Tables}
 use Rattle.tree.proofs.Laws.{Laws, laws_of}
 use Rattle.code.specs.Views.{View}
 use Rattle.tree.proofs.Facts.{Facts, facts}
 use Rattle.tree.specs.Places.{Place, at_column, at_edge, place_column, width, column_of, coefficient_of, arms, others, Arm, Other}
-use Rattle.tree.specs.Tree.{Filling, leaf, grow, symbol, part, Satisfied, Fits, Valid, Raw, Least, lower, Normal, Cost, Cheapest}
-use Rattle.tree.specs.Decoder.{best, from_check_cost, column_sum, less_least, round_to, round_distance, to_check_cost, distance}
+use Rattle.tree.specs.Tree.{Filling, leaf, grow, symbol, part, Satisfied, Fits, Valid, Raw, Least, lower, Cost, Cheapest}
+use Rattle.tree.specs.Decoder.{from_check_cost, column_sum, less_least, round_to, round_distance, to_check_cost, distance}
 use Rattle.tree.specs.Statement.{Loaded, Within, TreeStands}
 use Rattle.tree.proofs.Folds.{over_same, total_mono, greatest_mono, least_reached, least_under, choose}
 use Rattle.tree.proofs.Best.{products, Hit, from_hit, from_under}

@@ -1,21 +1,19 @@
 -- What the shared words mean, and the law of the from-check cost. Assumes nothing.
-use Rattle.std.proofs.Common.{◌≡◌, ℕ, zero, suc, pred, ◌+◌, ◌<◌, ◌≤◌, min, max, Bool, true, false, cond, not, ◌&&◌, eqb, ltb, ◌≢◌, ◌⊎◌, ◌↔◌, List, [], ◌∷◌, length, get_or, Some, None, Option, sym, refl, ap, ◌∙◌, subst, ap₂, inl, inr, true≢false, arith}
+use Rattle.std.proofs.Common.{◌≡◌, ℕ, zero, suc, ◌+◌, ◌<◌, ◌≤◌, max, Bool, true, false, cond, not, ◌&&◌, eqb, ltb, ◌≢◌, ◌⊎◌, ◌↔◌, List, [], ◌∷◌, length, get_or, Some, sym, refl, ap, ◌∙◌, subst, ap₂, inl, inr, true≢false, arith}
 use native.Mathlib.Decide.{dec_le}
 use Rattle.std.specs.List.{slice_get}
-use Rattle.std.proofs.lemmas.Bool.{cases_eq, eq-eqb, ne_eqb, eqb-true, eqb-false, ltb-true, ltb-false, cond_both, and_from, and_parts}
-use Rattle.field.specs.Tables.{Tables, Lawful}
+use Rattle.std.proofs.lemmas.Bool.{cases_eq, eq-eqb, ne_eqb, eqb-true, ltb-true, ltb-false, cond_both, and_from, and_parts}
 use Rattle.code.specs.declared.table.Edge.{Edge}
 use Rattle.code.specs.Rules.{Stands}
 use Rattle.code.specs.Views.{View}
 use Rattle.tree.specs.Over.{over, total, greatest, least_to, lowest_to}
-use Rattle.tree.specs.Places.{Admitted, width, no_edge, edge_at, row_of, column_of, coefficient_of, at_column, at_edge, arms, others, Arm, Other}
-use Rattle.tree.specs.Tree.{Satisfied, lower}
-use Rattle.tree.specs.Decoder.{from_check_cost}
-use Rattle.tree.specs.Statement.{Within, GreatestOf, Fitting, LeastGreatest, FromStands, WordsOf, SumsAre, WordsStand}
-use Rattle.tree.proofs.Laws.{Laws, laws_of}
-use Rattle.tree.proofs.Facts.{Facts, facts, stands}
+use Rattle.tree.specs.Places.{width, no_edge, edge_at, row_of, column_of, coefficient_of, at_column, at_edge, arms, others, Arm, Other}
+use Rattle.tree.specs.Tree.{lower}
+use Rattle.tree.specs.Statement.{FromStands, WordsOf, SumsAre, WordsStand}
+use Rattle.tree.proofs.Laws.{laws_of}
+use Rattle.tree.proofs.Facts.{facts, stands}
 use Rattle.tree.proofs.Folds.{over_tests, greatest_within, least_reached, least_under, below_suc}
-use Rattle.tree.proofs.Best.{products, Hit, another, from_hit, from_under}
+use Rattle.tree.proofs.Best.{products, another, from_hit, from_under}
 
 pub nth_at : {A : Type 0} (xs : List A) (i : ℕ) (d x : A) → slice_get xs i ≡ Some x → (i < length xs) × (get_or xs i d ≡ x)
 nth_at [] i d x e = absurd (let z : ◌≡◌ {A = ℕ} 0 1 = cc in let w : ⊥ = omega arith in w)

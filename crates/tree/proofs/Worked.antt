@@ -1,26 +1,26 @@
 -- The worked example, computed, and that it is a run. Assumes nothing.
-use Rattle.std.proofs.Common.{◌≡◌, ℕ, zero, suc, ◌+◌, ◌<◌, ◌≤◌, Bool, true, false, cond, not, ◌&&◌, ◌||◌, eqb, ltb, leb, ◌⊎◌, List, [], ◌∷◌, map, length, get_or, sym, refl, ap, ◌∙◌, subst, inl, inr, arith}
+use Rattle.std.proofs.Common.{◌≡◌, ℕ, ◌+◌, ◌<◌, ◌≤◌, Bool, true, false, not, ◌&&◌, ◌||◌, eqb, ltb, leb, ◌⊎◌, [], ◌∷◌, map, length, get_or, sym, refl, ap, ◌∙◌, subst, inl, inr, arith}
 use Rattle.std.specs.List.{range_with_len}
 use Rattle.std.proofs.lemmas.Option.{slice_get-get_or}
 use Rattle.std.proofs.lemmas.List.FromFn.{get_or-map-range_with_len, length-map-range_with_len}
 use Rattle.std.proofs.lemmas.List.{get_or_past}
 use Rattle.std.proofs.lemmas.Bool.{cases_lt, leb-true, ltb-true, eqb-true, lt-ltb, and_parts}
-use Rattle.field.specs.Tables.{Tables, Lawful, least}
+use Rattle.field.specs.Tables.{Lawful, least}
 use Rattle.field.proofs.Tested.{or_true}
 use Rattle.field.proofs.Checked.{checked}
 use Rattle.code.specs.declared.table.Edge.{Edge}
 use Rattle.code.specs.declared.table.Entry.{Entry}
 use Rattle.code.specs.Admission.{row_degree, column_degree, edge_before, entry_before, between, entry_fits}
-use Rattle.code.specs.Rules.{Stands, EdgeFits, EntryFits, EdgeBefore, EntryBefore, HasEdge, HasEntry, HeaderFits}
+use Rattle.code.specs.Rules.{Stands, EdgeFits, EntryFits, EdgeBefore, EntryBefore, HasEdge, HasEntry}
 use Rattle.tree.specs.Over.{over, least_to, lowest_to, every}
 use Rattle.tree.specs.Places.{Admitted, no_edge, edge_at, arms, others}
 use Rattle.tree.specs.Columns.{no_entry, entry_at}
 use Rattle.tree.specs.Tree.{lower}
 use Rattle.tree.specs.Decoder.{best, from_check_cost, column_sum, less_least, round_to, round_distance}
 use Rattle.tree.specs.Rows.{PairsRule, tabled, joined_at, joined, gathered, forth, back, around_at, back_pairs, forth_pairs, around_pair, around_pairs, row_pairs, first_of, rows_pairs, round_pairs}
-use Rattle.tree.specs.Frame.{Frame, Words, no_slip, loading, running, numbers_of, obey, same_numbers, parts_of, block, laid, stores, within, decided, row_sum, failing, told, word_of, next_parts, next_slip, outcome, Call, opens, loads, starts, rounds, reads, concludes, refused, Reply, done, slip_given, granted, round_told, column_told, word_told}
-use Rattle.tree.specs.Run.{History, next_history, Same, Brings, Run, new, obeyed}
-use Rattle.tree.specs.Worked.{three, code_A, begun, started, turned, recalled, asked, full_pairs, six_joins, obey_all, history_all, WorkedExample}
+use Rattle.tree.specs.Frame.{Frame, Words, loading, running, numbers_of, obey, same_numbers, parts_of, block, laid, stores, within, decided, row_sum, failing, told, word_of, next_parts, next_slip, outcome, Call, opens, loads, starts, rounds, reads, concludes, refused, Reply, done, slip_given, granted, round_told, column_told, word_told}
+use Rattle.tree.specs.Run.{History, next_history, Brings, Run, new, obeyed}
+use Rattle.tree.specs.Worked.{three, code_A, begun, started, turned, recalled, asked, full_pairs, six_joins, history_all, WorkedExample}
 use Rattle.tree.proofs.Words.{nth_at}
 use Rattle.tree.proofs.Outcomes.{every_is}
 use Rattle.tree.proofs.Runs.{run_words}

@@ -1,5 +1,5 @@
 -- What a row's vectors and joins are, and that they give the from-check costs. Assumes nothing.
-use Rattle.std.specs.Prelude.{◌≡◌, ℕ, suc, ◌+◌, ◌-◌, ◌<◌, ◌≤◌, ◌↔◌, List, length, slice_index}
+use Rattle.std.specs.Prelude.{◌≡◌, ℕ, suc, ◌+◌, ◌<◌, ◌≤◌, ◌↔◌, List, length, slice_index}
 use Rattle.field.specs.Tables.{Tables, Lawful}
 use Rattle.code.specs.Views.{View}
 use Rattle.tree.specs.Places.{Admitted, width, row_of}

@@ -5,7 +5,7 @@ use Rattle.code.specs.Views.{View}
 use Rattle.tree.specs.Places.{Admitted, at_column}
 use Rattle.tree.specs.Rows.{PairsRule}
 use Rattle.tree.specs.Tree.{Filling, symbol, Valid, Cost, Cheapest}
-use Rattle.tree.specs.Frame.{Numbers, Slip, no_slip, loading, running, Frame, Words, Call, opens, loads, starts, rounds, reads, concludes, column_told, round_told, word_told, Reply, Outcome, granted, refused, grants, outcome, stores, Effect, row_sum, failing}
+use Rattle.tree.specs.Frame.{Numbers, Slip, no_slip, loading, running, Frame, Words, Call, opens, loads, starts, rounds, reads, concludes, column_told, round_told, word_told, Reply, granted, refused, grants, outcome, stores, Effect, row_sum, failing}
 
 -- what the granted calls since the last granted open have been: its field and code, what the loads stored, how many rounds
 pub record History : Type 0 where

@@ -1,11 +1,11 @@
 -- The tree theorem, the law of the from-check cost, and what the words that both use mean. Assumes nothing.
-use Rattle.std.specs.Prelude.{◌≡◌, ℕ, pred, ◌+◌, ◌<◌, ◌≤◌, Bool, true, not, ◌&&◌, ◌≢◌, ◌↔◌, ◌==◌}
+use Rattle.std.specs.Prelude.{◌≡◌, ℕ, ◌+◌, ◌<◌, ◌≤◌, Bool, true, not, ◌&&◌, ◌≢◌, ◌↔◌, ◌==◌}
 use Rattle.field.specs.Tables.{Tables, Lawful}
 use Rattle.code.specs.declared.table.Edge.{Edge}
 use Rattle.code.specs.Rules.{Stands}
 use Rattle.code.specs.Views.{View}
 use Rattle.tree.specs.Over.{total, greatest, least_to, lowest_to}
-use Rattle.tree.specs.Places.{Admitted, width, row_of, column_of, coefficient_of, at_column, at_edge, others, Arm, Other}
+use Rattle.tree.specs.Places.{Admitted, width, row_of, column_of, coefficient_of, at_column, at_edge, Arm, Other}
 use Rattle.tree.specs.Tree.{Satisfied, lower, Cheapest}
 use Rattle.tree.specs.Decoder.{from_check_cost, distance}
 

@@ -1,4 +1,6 @@
 // The theory of the decoder, with no work at run time: each function's contract is a law over every field, code and run.
+#![tactic(auto)]
+
 ghost use Rattle.tree.specs.Areas.{AreasStand};
 ghost use Rattle.tree.specs.Checks.{ChecksStand};
 ghost use Rattle.tree.specs.Columns.{ColumnsStand};

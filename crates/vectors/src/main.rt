@@ -1,4 +1,6 @@
 // Runs test vectors: each line of standard input is a call of the library, and each call's answer is printed as one line.
+#![tactic(auto)]
+
 use std::io;
 use std::io::BufReader;
 

@@ -1,5 +1,5 @@
 -- The worked examples, computed. Assumes nothing.
-use Rattle.std.proofs.Common.{◌≡◌, refl}
+use Rattle.std.proofs.Common.{refl}
 use Rattle.kinds.proofs.Computed.{examples}
 use Rattle.joiner.specs.Answers.{refusal_of}
 use Rattle.joiner.specs.Costs.{within}

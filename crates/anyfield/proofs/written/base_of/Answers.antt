@@ -1,4 +1,4 @@
-use Rattle.std.proofs.Common.{◌≡◌, drop, sym, ap, ◌∙◌}
+use Rattle.std.proofs.Common.{drop, ap, ◌∙◌}
 use Rattle.notation.specs.Pieces.{pieces_of}
 use Rattle.anyfield.specs.Written.{answered, behind, binary_of, first_number, prime_of}
 use Rattle.anyfield.proofs.Raised.{base_prime, base_binary, base_other, drop_two}

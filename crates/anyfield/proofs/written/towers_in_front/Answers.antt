@@ -1,4 +1,4 @@
-use Rattle.std.proofs.Common.{◌≡◌, length, sym, ap, ◌∙◌, arith}
+use Rattle.std.proofs.Common.{length, sym, ap, ◌∙◌, arith}
 use Rattle.notation.specs.Pieces.{pieces_of}
 use Rattle.anyfield.specs.Written.{field_of, raises}
 use Rattle.anyfield.proofs.Raised.{raises_none, raises_more, field_none, field_tower, field_base}

@@ -1,4 +1,4 @@
-use Rattle.std.proofs.Common.{sym, refl, ◌∙◌}
+use Rattle.std.proofs.Common.{sym, ◌∙◌}
 use Rattle.code.proofs.Searches.{come_more, come_found, come_all, at_here}
 use Rattle.code.proofs.ranges.first_unfit_entry.Goals as goal
 

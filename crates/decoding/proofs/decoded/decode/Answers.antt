@@ -1,10 +1,10 @@
-use Rattle.std.proofs.Common.{◌≡◌, ℕ, cond, eqb, length, Some, None, sym, refl, ap, ◌∙◌, subst, arith}
+use Rattle.std.proofs.Common.{◌≡◌, ℕ, cond, length, Some, None, sym, ap, ◌∙◌, subst, arith}
 use Rattle.std.proofs.lemmas.Bool.{eqb-true, eqb-false}
 use Rattle.code.proofs.Lawfully.{rules_of}
 use Rattle.code.specs.Views.{view}
 use Rattle.due.specs.Numbers.{numbers_in}
 use Rattle.due.specs.Refusals.{number_of}
-use Rattle.tree.specs.Frame.{Slip, Frame, Outcome, running, concludes, word_told, granted, refused, grants, outcome, parts_of, word_of}
+use Rattle.tree.specs.Frame.{Slip, Outcome, concludes, word_told, granted, refused, grants, outcome, parts_of, word_of}
 use Rattle.frame.specs.Slips.{running_of}
 use Rattle.tree.proofs.Decodings.{decoding_theorem}
 use Rattle.decoding.specs.Ends.{frame_of, Settled}

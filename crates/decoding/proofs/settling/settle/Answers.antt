@@ -1,9 +1,9 @@
-use Rattle.std.proofs.Common.{◌≡◌, ℕ, suc, ◌-◌, ◌<◌, cond, Some, None, sym, refl, ap, ◌∙◌, arith}
+use Rattle.std.proofs.Common.{◌≡◌, suc, cond, Some, sym, refl, ap, ◌∙◌, arith}
 use Rattle.code.proofs.Lawfully.{rules_of}
 use Rattle.code.specs.Views.{view}
 use Rattle.due.specs.Numbers.{numbers_in}
 use Rattle.due.specs.Refusals.{number_of}
-use Rattle.tree.specs.Frame.{Outcome, Slip, running, rounds, round_told, granted, refused, grants, outcome, next_slip}
+use Rattle.tree.specs.Frame.{Outcome, running, rounds, round_told, granted, refused, grants, outcome, next_slip}
 use Rattle.frame.specs.Slips.{running_of}
 use Rattle.decoding.specs.Ends.{frame_of}
 use Rattle.tree.proofs.Decodings.{round_passed}

@@ -1,4 +1,4 @@
-use Rattle.std.proofs.Common.{◌≡◌, ℕ, ◌+◌, ◌<◌, sym, refl, ap, ◌∙◌, subst, ap₂, arith}
+use Rattle.std.proofs.Common.{ℕ, ◌<◌, sym, ◌∙◌, subst, ap₂, arith}
 use Rattle.encoder.proofs.Sparse.{edges_none, edges_here, edges_other}
 use Rattle.encoder.proofs.edges.edge_sum.Goals as goal
 use Rattle.encoder.proofs.edges.edge_sum.Goals.{then-e-row, else-e-row}

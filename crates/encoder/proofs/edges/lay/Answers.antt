@@ -1,4 +1,4 @@
-use Rattle.std.proofs.Common.{ℕ, ◌+◌, ◌*◌, ◌<◌, ◌≤◌, length, arith}
+use Rattle.std.proofs.Common.{◌+◌, arith}
 use Rattle.encoder.specs.CheckMatrix.{edge_at}
 use Rattle.encoder.proofs.Laying.{laid_none, laid_more}
 use Rattle.encoder.proofs.Places.{room_at}

@@ -1,7 +1,7 @@
-use Rattle.std.proofs.Common.{◌≡◌, ℕ, ◌+◌, ◌<◌, length, sym, refl, ap, ◌∙◌, subst, arith, below_more}
+use Rattle.std.proofs.Common.{◌≡◌, length, sym, refl, ◌∙◌, arith, below_more}
 use Rattle.linear.specs.Words.{row_sum}
 use Rattle.linear.proofs.Search.{fails_yes, fails_no}
-use Rattle.encoder.specs.CheckMatrix.{edge_sum, matrix_of}
+use Rattle.encoder.specs.CheckMatrix.{matrix_of}
 use Rattle.encoder.proofs.Sparse.{row_edges}
 use Rattle.encoder.proofs.edges.row_fails.Goals as goal
 

@@ -1,4 +1,4 @@
-use Rattle.std.proofs.Common.{◌≡◌, ℕ, ◌+◌, ◌*◌, ◌<◌, ◌≤◌, length, get_or, sym, refl, ap, ◌∙◌, subst, arith}
+use Rattle.std.proofs.Common.{◌+◌, ◌*◌, length, get_or, arith}
 use Rattle.linear.proofs.Placing.{reduced_same}
 use Rattle.encoder.specs.Bytes.{laid}
 use Rattle.encoder.specs.CheckMatrix.{coefficient_in}

@@ -1,4 +1,4 @@
-use Rattle.std.proofs.Common.{◌≡◌, ℕ, ◌-◌, ◌*◌, cond, not, eqb, ltb, length, Ok, Err, sym, refl, ap, ◌∙◌, subst, arith}
+use Rattle.std.proofs.Common.{◌≡◌, ◌-◌, ◌*◌, cond, not, eqb, ltb, length, Ok, Err, sym, refl, ap, ◌∙◌, arith}
 use Rattle.std.proofs.lemmas.Result.{err_from_is_err_and}
 use Rattle.code.specs.declared.table.Header.{Header}
 use Rattle.linear.proofs.Laws.{laws_stand}
@@ -13,7 +13,6 @@ use Rattle.encoder.proofs.Admitted.{check_entries, fewer_is, header_fits, listed
 use Rattle.encoder.proofs.Computed.{example_a}
 use Rattle.encoder.proofs.Passing.{opened, opening_rest, opening_stops}
 use Rattle.encoder.proofs.Promised.{early, encoding_law, encoding_refused, fails_scratch}
-use Rattle.encoder.proofs.encoding.encode.Given.{Over}
 use Rattle.encoder.proofs.encoding.encode.Goals as goal
 
 pub returns-in_err-open : goal.returns-in_err-open

@@ -1,4 +1,4 @@
-use Rattle.std.proofs.Common.{◌≡◌, ℕ, ◌+◌, ◌*◌, ◌<◌, ◌≤◌, length, get_or, sym, refl, ap, ◌∙◌, subst, subst₂, arith}
+use Rattle.std.proofs.Common.{◌≡◌, ℕ, ◌+◌, ◌*◌, length, get_or, sym, refl, ap, ◌∙◌, subst₂, arith}
 use Rattle.linear.proofs.Chosen.{encoded_is}
 use Rattle.linear.proofs.Laws.{dependent_at, independent_at}
 use Rattle.linear.proofs.Tests.{no_both}

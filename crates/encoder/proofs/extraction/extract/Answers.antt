@@ -1,4 +1,4 @@
-use Rattle.std.proofs.Common.{◌≡◌, ℕ, ◌-◌, ◌*◌, cond, not, eqb, ltb, length, Ok, Err, sym, refl, ap, ◌∙◌, subst, arith}
+use Rattle.std.proofs.Common.{◌≡◌, ◌-◌, ◌*◌, cond, not, eqb, ltb, length, Ok, Err, sym, refl, ap, ◌∙◌, arith}
 use Rattle.std.proofs.lemmas.Result.{err_from_is_err_and}
 use Rattle.code.specs.declared.table.Header.{Header}
 use Rattle.linear.proofs.Laws.{laws_stand}
@@ -9,10 +9,9 @@ use Rattle.encoder.specs.Answers.{Answer, are_codes, granted, information_length
 use Rattle.encoder.specs.CheckMatrix.{check_matrix}
 use Rattle.encoder.specs.Opened.{Opened}
 use Rattle.encoder.specs.declared.refusal.CoderRefusal.TheVariants.{RowFails, Dependent}
-use Rattle.encoder.proofs.Admitted.{check_entries, fewer_is, header_fits, listed_is, matrix_is, matrix_told, room_is}
+use Rattle.encoder.proofs.Admitted.{check_entries, fewer_is, listed_is, matrix_is, matrix_told, room_is}
 use Rattle.encoder.proofs.Passing.{opened, opening_rest, opening_stops}
 use Rattle.encoder.proofs.Promised.{early, extraction_law, extraction_refused}
-use Rattle.encoder.proofs.extraction.extract.Given.{Over}
 use Rattle.encoder.proofs.extraction.extract.Goals as goal
 
 pub returns-in_err-open : goal.returns-in_err-open

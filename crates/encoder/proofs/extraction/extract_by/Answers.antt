@@ -1,4 +1,4 @@
-use Rattle.std.proofs.Common.{◌≡◌, ℕ, ◌+◌, ◌*◌, ◌<◌, ◌≤◌, Bool, true, false, length, get_or, Ok, Err, sym, refl, ap, ◌∙◌, subst, subst₂, arith}
+use Rattle.std.proofs.Common.{◌≡◌, ℕ, ◌+◌, ◌*◌, length, get_or, sym, refl, ap, ◌∙◌, subst, subst₂, arith}
 use Rattle.linear.proofs.Laws.{dependent_at, independent_at, symbols_are}
 use Rattle.linear.proofs.Tests.{no_both}
 use Rattle.linear.proofs.Whole.{how_many, gathered_carries}

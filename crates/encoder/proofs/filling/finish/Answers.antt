@@ -1,4 +1,4 @@
-use Rattle.std.proofs.Common.{◌≡◌, ℕ, ◌+◌, ◌*◌, ◌<◌, ◌≤◌, List, length, get_or, set, sym, refl, ap, ◌∙◌, subst, arith}
+use Rattle.std.proofs.Common.{◌≡◌, ℕ, ◌+◌, ◌*◌, ◌<◌, List, get_or, sym, ap, ◌∙◌, subst, arith}
 use Rattle.linear.specs.Filling.{FilledTo}
 use Rattle.linear.specs.Words.{row_sum}
 use Rattle.linear.proofs.Placing.{same_sum, filled_skip, filled_more, asks_for}

@@ -1,4 +1,4 @@
-use Rattle.std.proofs.Common.{◌≡◌, ℕ, suc, ◌+◌, ◌*◌, length, get_or, sym, refl, ap, ◌∙◌, ap₂, arith}
+use Rattle.std.proofs.Common.{sym, ◌∙◌, ap₂, arith}
 use Rattle.encoder.specs.Bytes.{laid}
 use Rattle.encoder.proofs.Places.{room_at}
 use Rattle.linear.proofs.Placing.{part_more, part_none, part_all}

@@ -1,4 +1,4 @@
-use Rattle.std.proofs.Common.{◌≡◌, ◌≤◌, sym, subst, arith}
+use Rattle.std.proofs.Common.{◌≤◌, sym, subst, arith}
 use Rattle.code.specs.declared.table.Header.{Header}
 use Rattle.encoder.proofs.Admitted.{header_fits}
 use Rattle.encoder.proofs.opening.information_length.Goals as goal

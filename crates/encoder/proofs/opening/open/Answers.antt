@@ -1,4 +1,4 @@
-use Rattle.std.proofs.Common.{◌≡◌, ℕ, ◌*◌, ◌≤◌, not, eqb, ltb, sym, refl, ap, ◌∙◌, subst, le-ltb}
+use Rattle.std.proofs.Common.{ℕ, ◌*◌, ◌≤◌, not, sym, ap, ◌∙◌, subst, le-ltb}
 use Rattle.code.specs.declared.table.Header.{Header}
 use Rattle.encoder.specs.Answers.{are_codes}
 use Rattle.encoder.proofs.Passing.{passed, same_no}

@@ -1,4 +1,4 @@
-use Rattle.std.proofs.Common.{◌≡◌, ℕ, suc, ◌+◌, ◌≤◌, length, sym, refl, ap, ◌∙◌, arith}
+use Rattle.std.proofs.Common.{length, sym, ◌∙◌, arith}
 use Rattle.linear.proofs.Placing.{count_owned, count_free, count_none}
 use Rattle.encoder.proofs.owners.free_columns.Goals as goal
 use Rattle.encoder.proofs.owners.free_columns.Goals.{then-not-owned, else-not-owned}

@@ -1,4 +1,4 @@
-use Rattle.std.proofs.Common.{◌≡◌, ℕ, ◌≤◌, length}
+use Rattle.std.proofs.Common.{◌≡◌, ◌≤◌, length}
 use Rattle.linear.specs.Count.{count}
 use Rattle.linear.specs.Filling.{free_of}
 use Rattle.encoder.proofs.owners.free_columns.Given as goal

@@ -1,5 +1,4 @@
-use Rattle.std.proofs.Common.{◌≡◌, ℕ, suc, ◌+◌, ◌<◌, ◌≤◌, true, false, not, List, length, get_or, sym, refl, ap, ◌∙◌, subst, arith, rules}
-use Rattle.linear.specs.Count.{count}
+use Rattle.std.proofs.Common.{◌≡◌, ℕ, ◌+◌, true, false, not, List, length, sym, ap, ◌∙◌, subst, arith, rules}
 use Rattle.linear.specs.Filling.{free_of, Gathered, owned_by}
 use Rattle.linear.proofs.Counts.{count_below, count_most}
 use Rattle.linear.proofs.Placing.{count_owned, count_free, count_none, gathered_none, gathered_skip, gathered_more}

@@ -1,6 +1,5 @@
-use Rattle.std.proofs.Common.{◌≡◌, length, get_or, Some, None, sym, refl, ap, ◌∙◌, arith}
-use Rattle.linear.proofs.Placing.{owned_yes, owned_no, owns_is, owns_yes}
-use Rattle.linear.proofs.Tests.{no_both}
+use Rattle.std.proofs.Common.{length, get_or, None, sym, ◌∙◌, arith}
+use Rattle.linear.proofs.Placing.{owned_yes, owned_no, owns_is}
 use Rattle.encoder.proofs.owners.owned.Goals as goal
 
 pub returns-then-owns : goal.returns-then-owns

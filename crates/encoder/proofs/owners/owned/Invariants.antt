@@ -1,4 +1,4 @@
-use Rattle.std.proofs.Common.{◌≡◌, ℕ, suc, ◌+◌, ◌<◌, get_or, Some, None}
+use Rattle.std.proofs.Common.{◌≡◌, ℕ, ◌<◌, get_or, Some, None}
 use Rattle.encoder.proofs.owners.owned.Given as goal
 
 abbrev pub invariant-loop-r : goal.invariant-loop-r

@@ -1,4 +1,4 @@
-use Rattle.std.proofs.Common.{◌≡◌, ℕ, ◌+◌, ◌*◌, ◌/◌, ◌%◌, ◌<◌, ◌≤◌, length, sym, refl, ap, ◌∙◌, subst, ap₂, arith}
+use Rattle.std.proofs.Common.{◌≡◌, ℕ, ◌*◌, ◌/◌, ◌%◌, ◌<◌, ◌≤◌, length, ap, ◌∙◌, subst, arith}
 use Rattle.encoder.specs.Bytes.{ProductsTo}
 use Rattle.encoder.proofs.Multiplied.{square, quotient_below, rest_below, products_more, products_all}
 use Rattle.encoder.proofs.products.multiply_all.Goals as goal

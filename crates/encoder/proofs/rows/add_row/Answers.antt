@@ -1,4 +1,4 @@
-use Rattle.std.proofs.Common.{◌≡◌, ℕ, ◌+◌, ◌*◌, ◌<◌, ◌≤◌, length, get_or, sym, refl, ap, ◌∙◌, subst, ap₂, arith, rules}
+use Rattle.std.proofs.Common.{◌≡◌, ℕ, ◌+◌, ◌*◌, ◌<◌, get_or, sym, ap, ◌∙◌, subst, arith}
 use Rattle.linear.specs.Elimination.{Added}
 use Rattle.encoder.specs.Bytes.{laid}
 use Rattle.encoder.proofs.Places.{room_at, added_none, source_kept, target_kept, added_more}

@@ -1,4 +1,4 @@
-use Rattle.std.proofs.Common.{◌≡◌, ℕ, ◌+◌, ◌*◌, ◌<◌, ◌≤◌, ◌⊎◌, length, get_or, sym, refl, ap, ◌∙◌, subst, inl, inr, arith}
+use Rattle.std.proofs.Common.{ℕ, ◌+◌, ◌*◌, get_or, sym, refl, ap, ◌∙◌, subst, inl, arith}
 use Rattle.linear.specs.Elimination.{ClearedTo}
 use Rattle.linear.proofs.Clearing.{cleared_none, cleared_skip, cleared_one, cleared_all}
 use Rattle.encoder.specs.Bytes.{laid}

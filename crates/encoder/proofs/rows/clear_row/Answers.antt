@@ -1,4 +1,4 @@
-use Rattle.std.proofs.Common.{◌≡◌, ℕ, ◌+◌, ◌*◌, ◌<◌, get_or, sym, refl, ap, ◌∙◌, subst, arith}
+use Rattle.std.proofs.Common.{◌+◌, ◌*◌, get_or, refl}
 use Rattle.linear.proofs.Clearing.{factor_gone, one_none}
 use Rattle.encoder.proofs.Places.{room_at}
 use Rattle.encoder.proofs.rows.clear_row.Goals as goal

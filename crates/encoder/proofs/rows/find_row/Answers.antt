@@ -1,4 +1,4 @@
-use Rattle.std.proofs.Common.{◌≡◌, ℕ, ◌+◌, ◌*◌, ◌<◌, not, length, get_or, is_some, None, sym, refl, ap, ◌∙◌, subst, arith, below_more}
+use Rattle.std.proofs.Common.{◌≡◌, ◌+◌, ◌*◌, not, get_or, is_some, None, ap, ◌∙◌, arith, below_more}
 use Rattle.linear.proofs.Tests.{no_both}
 use Rattle.encoder.proofs.Places.{room_at}
 use Rattle.encoder.proofs.rows.find_row.Goals as goal

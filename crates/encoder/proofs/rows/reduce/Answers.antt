@@ -1,4 +1,4 @@
-use Rattle.std.proofs.Common.{◌≡◌, ℕ, suc, ◌+◌, ◌-◌, ◌*◌, ◌<◌, ◌≤◌, List, length, get_or, set, Option, sym, refl, ap, ◌∙◌, subst, arith}
+use Rattle.std.proofs.Common.{◌≡◌, ℕ, ◌+◌, ◌-◌, ◌*◌, List, get_or, Option, sym, subst, arith}
 use Rattle.linear.specs.Elimination.{Reduced}
 use Rattle.linear.proofs.Reduce.{begun, found, none_found, one_less}
 use Rattle.encoder.specs.Bytes.{laid}

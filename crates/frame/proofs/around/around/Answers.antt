@@ -1,11 +1,10 @@
-use Rattle.std.proofs.Common.{◌≡◌, ℕ, suc, ◌+◌, ◌-◌, ◌*◌, ◌<◌, ◌≤◌, length, sym, refl, ap, ◌∙◌, subst, ap₂, inl, inr, add-one, arith}
-use Rattle.std.proofs.lemmas.Nat.{mul-le}
+use Rattle.std.proofs.Common.{◌≡◌, ℕ, ◌+◌, ◌-◌, ◌<◌, ◌≤◌, length, sym, refl, ap, ◌∙◌, subst, ap₂, inr, add-one, arith}
 use Rattle.frame.specs.Vectors.{minus}
-use Rattle.tree.specs.Rows.{gathered, around_at, around_pair, around_pairs}
+use Rattle.tree.specs.Rows.{gathered, around_pairs}
 use Rattle.joiner.specs.Costs.{Low}
 use Rattle.frame.specs.Blocks.{block, blocks, from_on}
-use Rattle.frame.specs.Row.{read_at, coefficient_at}
-use Rattle.frame.proofs.Turns.{filled_none, filled_more, wrote_as, around_same, pair_same, few_around, few_pairs, same_blocks}
+use Rattle.frame.specs.Row.{coefficient_at}
+use Rattle.frame.proofs.Turns.{filled_none, filled_more, around_same, pair_same, few_around, few_pairs, same_blocks}
 use Rattle.frame.proofs.around.around.Goals as goal
 
 pub loop-i-init : goal.loop-i-init

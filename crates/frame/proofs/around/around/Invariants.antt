@@ -1,4 +1,4 @@
-use Rattle.std.proofs.Common.{◌≡◌, ℕ, ◌+◌, ◌-◌, ◌*◌, ◌≤◌, length}
+use Rattle.std.proofs.Common.{◌≡◌, ◌+◌, ◌-◌, ◌*◌, ◌≤◌, length}
 use Rattle.frame.specs.Blocks.{from_on, Filled}
 use Rattle.frame.specs.Row.{read_at, coefficient_at}
 use Rattle.tree.specs.Rows.{around_at, around_pairs}

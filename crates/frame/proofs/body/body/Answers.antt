@@ -1,13 +1,11 @@
-use Rattle.std.proofs.Common.{◌≡◌, ℕ, suc, ◌+◌, ◌<◌, ◌≤◌, eqb, List, length, replicate, sym, refl, ap, ◌∙◌, subst, arith}
+use Rattle.std.proofs.Common.{◌+◌, ◌<◌, ◌≤◌, length, sym, ◌∙◌, subst, arith}
 use Rattle.joiner.specs.Costs.{Low}
-use Rattle.tree.specs.Over.{count}
-use Rattle.tree.specs.Places.{width, column_of, arms, at_column}
+use Rattle.tree.specs.Places.{arms}
 use Rattle.tree.specs.Columns.{height}
 use Rattle.tree.specs.Columns as tree
 use Rattle.tree.proofs.Rows.{rows_rise}
 use Rattle.tree.proofs.Columns.{entry_edge, column_total}
-use Rattle.frame.specs.Blocks.{block, blocks, Filled}
-use Rattle.frame.specs.Columns.{column_at, entry_at, lowered, SummedTo}
+use Rattle.frame.specs.Blocks.{block, blocks}
 use Rattle.frame.specs.Round.{code_of}
 use Rattle.frame.proofs.Turns.{same_blocks}
 use Rattle.frame.proofs.Bodies.{A, room_blocks, low_costs, wide, same_pairs, low_begun, low_two, below_three, moved}

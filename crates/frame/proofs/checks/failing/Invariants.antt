@@ -1,4 +1,4 @@
-use Rattle.std.proofs.Common.{◌≡◌, ℕ, ◌≤◌}
+use Rattle.std.proofs.Common.{◌≡◌, ◌≤◌}
 use Rattle.frame.specs.AllRows.{Cut}
 use Rattle.frame.specs.Words.{failing_to}
 use Rattle.frame.proofs.checks.failing.Given as goal

@@ -1,4 +1,4 @@
-use Rattle.std.proofs.Common.{◌≡◌, ℕ, ◌<◌}
+use Rattle.std.proofs.Common.{◌≡◌, ◌<◌}
 use Rattle.frame.specs.Words.{sum_to}
 use Rattle.frame.proofs.checks.row_sum.Given as goal
 

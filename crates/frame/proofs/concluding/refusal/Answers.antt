@@ -1,5 +1,5 @@
-use Rattle.std.proofs.Common.{◌≡◌, ℕ, ◌<◌, ◌≤◌, true, false, eqb, ltb, leb, sym, refl, ap, ◌∙◌, subst, arith}
-use Rattle.std.proofs.lemmas.Bool.{le-ltb, lt-ltb, eq-eqb, ne_eqb, leb-true, eqb-true, and_left, and_right, and_from}
+use Rattle.std.proofs.Common.{sym, ◌∙◌}
+use Rattle.std.proofs.lemmas.Bool.{leb-true, eqb-true}
 use Rattle.tree.specs.Frame.{outcome}
 use Rattle.frame.proofs.Wants.{want_no, want_yes}
 use Rattle.frame.proofs.concluding.refusal.Goals as goal

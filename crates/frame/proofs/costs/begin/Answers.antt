@@ -1,4 +1,4 @@
-use Rattle.std.proofs.Common.{◌≡◌, ℕ, ◌+◌, ◌<◌, ◌≤◌, length, refl, inl, inr, arith}
+use Rattle.std.proofs.Common.{◌+◌, ◌≤◌, length, refl, inl, arith}
 use Rattle.frame.specs.Blocks.{block, blocks}
 use Rattle.frame.proofs.Written.{room, length_block}
 use Rattle.frame.proofs.Turns.{same_blocks, wrote, filled_none, filled_more}

@@ -1,4 +1,4 @@
-use Rattle.std.proofs.Common.{◌≡◌, length, refl, ap, ◌∙◌}
+use Rattle.std.proofs.Common.{length, refl, ap, ◌∙◌}
 use Rattle.frame.proofs.Written.{room_at, room, length_block}
 use Rattle.frame.proofs.Steps.{front_is}
 use Rattle.frame.proofs.costs.copy_block.Goals as goal

@@ -1,6 +1,6 @@
-use Rattle.std.proofs.Common.{◌≡◌, ℕ, ◌+◌, ◌<◌, ◌≤◌, length, get_or, sym, refl, ap, ◌∙◌, subst, ap₂, inl, inr, arith}
-use Rattle.frame.specs.Blocks.{block, blocks}
-use Rattle.frame.specs.Columns.{column_at, word, lowered}
+use Rattle.std.proofs.Common.{◌+◌, ◌≤◌, length, get_or, refl, ap, ap₂, inl, inr, arith}
+use Rattle.frame.specs.Blocks.{blocks}
+use Rattle.frame.specs.Columns.{column_at, lowered}
 use Rattle.frame.proofs.Turns.{same_blocks, wrote, filled_none, filled_more}
 use Rattle.frame.proofs.Summed.{length_lowered}
 use Rattle.frame.proofs.costs.costs.Goals as goal

@@ -1,4 +1,4 @@
-use Rattle.std.proofs.Common.{ℕ, ◌+◌}
+use Rattle.std.proofs.Common.{◌+◌}
 use Rattle.frame.specs.Blocks.{block, Filled}
 use Rattle.frame.specs.Columns.{column_at, lowered}
 use Rattle.frame.proofs.costs.costs.Given as goal

@@ -1,4 +1,4 @@
-use Rattle.std.proofs.Common.{◌≡◌, ℕ, min, sym, refl, ap, ◌∙◌, ap₂, arith}
+use Rattle.std.proofs.Common.{min, ◌∙◌, ap₂, arith}
 use Rattle.tree.specs.Over.{least_to}
 use Rattle.frame.specs.Columns.{rests}
 use Rattle.frame.proofs.Summed.{least_more}

@@ -1,4 +1,4 @@
-use Rattle.std.proofs.Common.{◌≡◌, ℕ, pred}
+use Rattle.std.proofs.Common.{◌≡◌, pred}
 use Rattle.tree.specs.Over.{least_to}
 use Rattle.frame.specs.Columns.{rests}
 use Rattle.frame.proofs.costs.least_without.Given as goal

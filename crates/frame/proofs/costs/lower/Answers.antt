@@ -1,7 +1,6 @@
-use Rattle.std.proofs.Common.{◌≡◌, ℕ, pred, ◌-◌, min, length, get_or, sym, ap, ◌∙◌, arith}
+use Rattle.std.proofs.Common.{◌≡◌, pred, ◌-◌, min, length, ap, ◌∙◌, arith}
 use Rattle.std.proofs.lemmas.List.FromFn.{fill_by_all}
 use Rattle.tree.specs.Over.{least_to}
-use Rattle.tree.proofs.Folds.{least_under}
 use Rattle.tree.specs.Rows.{tabled}
 use Rattle.frame.specs.Columns.{rests, lowered}
 use Rattle.frame.proofs.Scans.{set_below}

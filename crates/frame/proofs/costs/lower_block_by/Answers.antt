@@ -1,4 +1,4 @@
-use Rattle.std.proofs.Common.{◌≡◌, sym, refl, ap, ◌∙◌}
+use Rattle.std.proofs.Common.{refl, ◌∙◌}
 use Rattle.frame.proofs.Written.{room_at}
 use Rattle.frame.proofs.costs.lower_block_by.Goals as goal
 

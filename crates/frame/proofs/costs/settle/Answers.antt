@@ -1,5 +1,5 @@
-use Rattle.std.proofs.Common.{◌≡◌, ℕ, ◌+◌, ◌<◌, ◌≤◌, length, replicate, refl, ap, inl, inr, arith}
-use Rattle.frame.specs.Blocks.{block, blocks}
+use Rattle.std.proofs.Common.{◌+◌, ◌≤◌, replicate, refl, ap, inr, arith}
+use Rattle.frame.specs.Blocks.{blocks}
 use Rattle.frame.specs.Columns.{lowered}
 use Rattle.frame.proofs.Turns.{same_blocks, wrote, filled_none, filled_more}
 use Rattle.frame.proofs.Summed.{length_lowered}

@@ -1,4 +1,4 @@
-use Rattle.std.proofs.Common.{◌≡◌, ℕ, pred, ◌+◌, ◌-◌, ◌*◌, ◌<◌, ◌≤◌, length, get_or, take, drop, sym, refl, ap, ◌∙◌, subst, arith, below_more}
+use Rattle.std.proofs.Common.{◌+◌, ◌*◌, length, ◌∙◌, arith}
 use Rattle.tree.proofs.Rows.{tabled_is}
 use Rattle.frame.specs.Words.{symbol_at}
 use Rattle.frame.proofs.Scans.{block_room, part_lowest, set_below}

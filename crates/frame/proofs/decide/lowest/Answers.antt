@@ -1,4 +1,4 @@
-use Rattle.std.proofs.Common.{◌≡◌, ℕ, ◌+◌, ◌<◌, get_or, sym, refl, ◌∙◌, subst, arith}
+use Rattle.std.proofs.Common.{◌+◌, ◌<◌, get_or, sym, refl, ◌∙◌, subst, arith}
 use Rattle.tree.specs.Over.{lowest_to}
 use Rattle.frame.proofs.Scans.{lowest_next, nearer_low}
 use Rattle.frame.proofs.decide.lowest.Goals as goal

@@ -1,4 +1,4 @@
-use Rattle.std.proofs.Common.{◌≡◌, ℕ, pred, ◌<◌, ◌≤◌, get_or}
+use Rattle.std.proofs.Common.{◌≡◌, pred, ◌<◌, get_or}
 use Rattle.tree.specs.Over.{lowest_to}
 use Rattle.frame.proofs.decide.lowest.Given as goal
 

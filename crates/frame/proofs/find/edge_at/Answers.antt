@@ -1,5 +1,5 @@
-use Rattle.std.proofs.Common.{◌≡◌, ℕ, ◌+◌, ◌-◌, ◌/◌, ◌<◌, ◌≤◌, ◌⊎◌, length, sym, inl, inr, ⊎_elim, arith}
-use Rattle.frame.specs.Columns.{row_at, column_at, StandsAt}
+use Rattle.std.proofs.Common.{◌≡◌, ℕ, ◌+◌, ◌-◌, ◌/◌, ◌<◌, length, sym, arith}
+use Rattle.frame.specs.Columns.{row_at, column_at}
 use Rattle.frame.proofs.Places.{position_is, place_after, place_before}
 use Rattle.frame.proofs.find.edge_at.Goals as goal
 use Rattle.frame.proofs.find.edge_at.Goals.{else-edge-row-via-then-edge-row+else-edge-column, else-edge-row-via-else-edge-row}

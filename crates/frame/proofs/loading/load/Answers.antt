@@ -1,11 +1,7 @@
-use Rattle.std.proofs.Common.{◌≡◌, ℕ, ◌+◌, ◌-◌, ◌*◌, ◌<◌, ◌≤◌, true, false, cond, length, get_or, take, drop, Some, None, sym, refl, ap, ◌∙◌, subst, ap₂, arith}
-use Rattle.std.proofs.lemmas.Nat.{mul-le}
+use Rattle.std.proofs.Common.{◌+◌, ◌*◌, ◌≤◌, length, sym, subst, arith}
 use Rattle.code.proofs.Lawfully.{rules_of}
 use Rattle.code.specs.Views.{view}
-use Rattle.tree.specs.Frame.{outcome, opens, loads, starts, rounds, reads, concludes, loading, running, no_slip, slip_given, granted, refused, grants, held_words, area_words, parts_of, numbers_of, next_slip, word_told, column_told, round_told, done, told, word_of, decided}
 use Rattle.due.specs.Refusals.{number_of}
-use Rattle.frame.specs.Slips.{loading_of, running_of}
-use Rattle.due.specs.Numbers.{numbers_in}
 use Rattle.frame.proofs.Wants.{area_refused, area_granted}
 use Rattle.field.specs.Tables.{Tables}
 use Rattle.frame.specs.Words.{Written, store_at}

@@ -1,5 +1,4 @@
-use Rattle.std.proofs.Common.{◌≡◌, ℕ, ◌<◌, ◌≤◌, true, false, eqb, ltb, leb, sym, refl, ap, ◌∙◌, subst, arith}
-use Rattle.std.proofs.lemmas.Bool.{le-ltb, lt-ltb, eq-eqb, ne_eqb, leb-true, eqb-true, and_left, and_right, and_from}
+use Rattle.std.proofs.Common.{sym, ◌∙◌}
 use Rattle.tree.specs.Frame.{outcome}
 use Rattle.frame.proofs.Wants.{want_no, want_yes}
 use Rattle.frame.proofs.loading.refusal.Goals as goal

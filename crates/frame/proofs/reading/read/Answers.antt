@@ -1,16 +1,10 @@
-use Rattle.std.proofs.Common.{◌≡◌, ℕ, pred, ◌+◌, ◌-◌, ◌*◌, ◌<◌, ◌≤◌, true, false, cond, length, get_or, take, drop, Some, None, sym, refl, ap, ◌∙◌, subst, ap₂, arith}
-use Rattle.std.proofs.lemmas.Nat.{mul-le}
+use Rattle.std.proofs.Common.{◌≡◌, ℕ, pred, ◌+◌, ◌-◌, ◌*◌, ◌≤◌, cond, length, get_or, take, drop, sym, ap, ◌∙◌, subst, ap₂, arith}
 use Rattle.code.proofs.Lawfully.{rules_of}
 use Rattle.code.specs.Views.{view}
-use Rattle.tree.specs.Frame.{outcome, opens, loads, starts, rounds, reads, concludes, loading, running, no_slip, slip_given, granted, refused, grants, held_words, area_words, parts_of, numbers_of, next_slip, word_told, column_told, round_told, done, told, word_of, decided}
-use Rattle.due.specs.Refusals.{number_of}
-use Rattle.frame.specs.Slips.{loading_of, running_of}
-use Rattle.due.specs.Numbers.{numbers_in}
-use Rattle.frame.proofs.Wants.{area_refused, area_granted}
+use Rattle.tree.specs.Frame.{granted, grants, parts_of, column_told, told, decided}
 use Rattle.field.specs.Tables.{Tables}
 use Rattle.std.proofs.lemmas.List.Edits.{length-between}
 use Rattle.tree.specs.Over.{lowest_to}
-use Rattle.tree.specs.Rows.{tabled}
 use Rattle.tree.proofs.Rows.{tabled_block}
 use Rattle.frame.proofs.Scans.{block_room, part_lowest}
 use Rattle.frame.proofs.Passed.{read_passed}

@@ -1,16 +1,14 @@
-use Rattle.std.proofs.Common.{◌≡◌, ℕ, suc, ◌+◌, ◌-◌, ◌*◌, ◌<◌, ◌≤◌, min, true, false, cond, length, get_or, take, drop, Some, None, sym, refl, ap, ◌∙◌, subst, ap₂, add-one, arith}
-use Rattle.std.proofs.lemmas.Nat.{mul-le}
+use Rattle.std.proofs.Common.{◌≡◌, suc, ◌≤◌, min, cond, sym, ap, ◌∙◌, subst, ap₂, arith}
 use Rattle.code.proofs.Lawfully.{rules_of}
 use Rattle.code.specs.Views.{view}
-use Rattle.tree.specs.Frame.{outcome, opens, loads, starts, rounds, reads, concludes, loading, running, no_slip, slip_given, granted, refused, grants, held_words, area_words, parts_of, numbers_of, next_slip, word_told, column_told, round_told, done, told, word_of, decided}
+use Rattle.tree.specs.Frame.{rounds, running, granted, grants, area_words, parts_of, next_slip, round_told, decided}
 use Rattle.due.specs.Refusals.{number_of}
-use Rattle.frame.specs.Slips.{loading_of, running_of}
+use Rattle.frame.specs.Slips.{running_of}
 use Rattle.due.specs.Numbers.{numbers_in}
 use Rattle.frame.proofs.Wants.{area_refused, area_granted}
 use Rattle.tree.specs.Rows.{round_pairs}
 use Rattle.tree.specs.Frame.{failing, next_parts}
 use Rattle.tree.proofs.Words.{from_theorem}
-use Rattle.tree.proofs.Areas.{holds_is}
 use Rattle.frame.specs.Round.{code_of, Ready, Moved}
 use Rattle.frame.proofs.Passed.{round_passed}
 use Rattle.frame.proofs.Rounded.{same_failing}

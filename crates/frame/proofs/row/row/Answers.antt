@@ -1,4 +1,4 @@
-use Rattle.std.proofs.Common.{◌≡◌, ℕ, suc, ◌+◌, ◌-◌, ◌<◌, ◌≤◌, length, sym, refl, ap, ◌∙◌, subst, ap₂, arith}
+use Rattle.std.proofs.Common.{◌≡◌, suc, ◌+◌, ◌-◌, ◌≤◌, length, ◌∙◌, arith}
 use Rattle.frame.specs.Blocks.{blocks}
 use Rattle.frame.specs.Row.{coefficient_at}
 use Rattle.frame.proofs.Turns.{turned_wrote, same_blocks}

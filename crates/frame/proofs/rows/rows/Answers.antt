@@ -1,6 +1,6 @@
-use Rattle.std.proofs.Common.{◌≡◌, ℕ, suc, ◌+◌, ◌-◌, ◌<◌, ◌≤◌, length, take, drop, sym, refl, ap, ◌∙◌, subst, ap₂, inl, inr, add-one, arith}
+use Rattle.std.proofs.Common.{◌≡◌, ℕ, suc, ◌+◌, ◌-◌, ◌≤◌, length, take, drop, sym, refl, ap, ◌∙◌, subst, ap₂, inl, add-one, arith}
 use Rattle.joiner.specs.Costs.{Low}
-use Rattle.frame.specs.Blocks.{block, blocks}
+use Rattle.frame.specs.Blocks.{block}
 use Rattle.frame.specs.Row.{coefficient_at, row_vectors, RowDone}
 use Rattle.tree.specs.Rows.{row_pairs}
 use Rattle.frame.specs.AllRows.{starts, last_of, coefficients_of, rows_pairs, Cut}

@@ -1,4 +1,4 @@
-use Rattle.std.proofs.Common.{◌≡◌, ℕ, ◌*◌, ◌≤◌}
+use Rattle.std.proofs.Common.{◌≡◌, ◌*◌, ◌≤◌}
 use Rattle.frame.specs.AllRows.{rows_pairs, RowsTo, Cut}
 use Rattle.frame.proofs.rows.rows.Given as goal
 

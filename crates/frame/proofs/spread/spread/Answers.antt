@@ -1,4 +1,4 @@
-use Rattle.std.proofs.Common.{◌≡◌, ℕ, ◌+◌, ◌<◌, ◌≤◌, sym, refl, ap, ◌∙◌, ap₂, inl, inr, arith}
+use Rattle.std.proofs.Common.{◌+◌, ◌≤◌, refl, ap₂, inl, arith}
 use Rattle.tree.specs.Rows.{gathered}
 use Rattle.frame.specs.Blocks.{blocks}
 use Rattle.frame.specs.Row.{coefficient_at, row_vectors}

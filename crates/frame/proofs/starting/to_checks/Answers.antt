@@ -1,5 +1,5 @@
-use Rattle.std.proofs.Common.{◌≡◌, ℕ, ◌+◌, ◌<◌, ◌≤◌, length, refl, ap, inl, inr, arith}
-use Rattle.frame.specs.Blocks.{block, blocks}
+use Rattle.std.proofs.Common.{◌+◌, ◌≤◌, length, refl, inl, arith}
+use Rattle.frame.specs.Blocks.{blocks}
 use Rattle.frame.specs.Columns.{column_at}
 use Rattle.frame.proofs.Turns.{same_blocks, wrote, filled_none, filled_more}
 use Rattle.frame.proofs.Written.{room, length_block}

@@ -1,4 +1,4 @@
-use Rattle.std.proofs.Common.{◌≡◌, ℕ, ◌-◌, List, length, take, None, sym, refl, ap, ◌∙◌}
+use Rattle.std.proofs.Common.{◌≡◌, ◌-◌, length, take, sym, ap, ◌∙◌}
 use Rattle.joiner.specs.Answers.{or_old}
 use Rattle.tree.specs.Rows.{joined}
 use Rattle.joiner.specs.Joined.{joined_of}

@@ -1,4 +1,4 @@
-use Rattle.std.proofs.Common.{◌≡◌, sym, ap, ◌∙◌}
+use Rattle.std.proofs.Common.{sym, ◌∙◌}
 use Rattle.frame.proofs.Written.{room_at}
 use Rattle.frame.proofs.step.turn_by.Goals as goal
 

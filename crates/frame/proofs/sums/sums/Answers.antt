@@ -1,6 +1,5 @@
-use Rattle.std.proofs.Common.{◌≡◌, ℕ, ◌+◌, ◌<◌, ◌≤◌, length, arith}
+use Rattle.std.proofs.Common.{◌+◌, ◌<◌, ◌≤◌, length, arith}
 use Rattle.frame.specs.Blocks.{blocks}
-use Rattle.frame.specs.Columns.{entry_at, edge_of}
 use Rattle.frame.proofs.Places.{position_within}
 use Rattle.frame.proofs.Turns.{same_blocks}
 use Rattle.frame.proofs.Summed.{summed_none, summed_fits, summed_more}

@@ -1,6 +1,6 @@
-use Rattle.std.proofs.Common.{◌≡◌, ℕ, suc, ◌+◌, ◌-◌, ◌<◌, ◌≤◌, sym, refl, ap, ◌∙◌, subst, inl, inr, arith}
+use Rattle.std.proofs.Common.{suc, ◌+◌, ◌-◌, ◌≤◌, sym, refl, subst, inl, arith}
 use Rattle.joiner.specs.Costs.{Low}
-use Rattle.frame.specs.Blocks.{block, blocks, from_on}
+use Rattle.frame.specs.Blocks.{blocks, from_on}
 use Rattle.tree.specs.Rows.{back, back_pairs}
 use Rattle.frame.proofs.Turns.{filled_one, filled_more, stepped_wrote, at_there, at_kept, next_back, count_back, low_back, same_blocks, few_pairs}
 use Rattle.frame.proofs.sweeps.backward.Goals as goal

@@ -1,4 +1,4 @@
-use Rattle.std.proofs.Common.{◌≡◌, ℕ, ◌+◌, ◌*◌, ◌≤◌}
+use Rattle.std.proofs.Common.{◌≡◌, ◌+◌, ◌*◌, ◌≤◌}
 use Rattle.frame.specs.Blocks.{from_on, Filled}
 use Rattle.tree.specs.Rows.{back, back_pairs}
 use Rattle.frame.proofs.sweeps.backward.Given as goal

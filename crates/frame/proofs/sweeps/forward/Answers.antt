@@ -1,4 +1,4 @@
-use Rattle.std.proofs.Common.{◌≡◌, ℕ, suc, ◌+◌, ◌-◌, ◌<◌, ◌≤◌, sym, refl, ap, ◌∙◌, subst, inl, inr, arith}
+use Rattle.std.proofs.Common.{◌≡◌, suc, ◌+◌, ◌≤◌, sym, refl, ap, subst, inr, arith}
 use Rattle.joiner.specs.Costs.{Low}
 use Rattle.frame.specs.Blocks.{block, blocks, from_on}
 use Rattle.tree.specs.Rows.{forth, forth_pairs}

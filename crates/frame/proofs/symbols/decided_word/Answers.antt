@@ -1,7 +1,5 @@
-use Rattle.std.proofs.Common.{◌≡◌, ℕ, ◌+◌, ◌*◌, ◌<◌, ◌≤◌, length, sym, refl, ap, ◌∙◌, subst, ap₂, arith}
-use Rattle.std.proofs.lemmas.Nat.{mul-le}
+use Rattle.std.proofs.Common.{◌≤◌, sym, subst}
 use Rattle.code.proofs.Lawfully.{rules_of}
-use Rattle.code.specs.Views.{view}
 use Rattle.frame.proofs.symbols.decided_word.Goals as goal
 
 pub slice_bounds-found-end : goal.slice_bounds-found-end

@@ -1,4 +1,4 @@
-use Rattle.std.proofs.Common.{◌≡◌, ℕ, ◌+◌, ◌*◌, ◌<◌, ◌≤◌, true, leb, length, get_or, sym, ◌∙◌, arith, below_more}
+use Rattle.std.proofs.Common.{◌+◌, ◌*◌, leb, length, get_or, sym, ◌∙◌, arith, below_more}
 use Rattle.tree.specs.Over.{every}
 use Rattle.frame.proofs.Scans.{block_room, every_all, every_not, part_every}
 use Rattle.frame.proofs.within.blocks_within.Goals as goal

@@ -1,4 +1,4 @@
-use Rattle.std.proofs.Common.{ℕ, refl, arith}
+use Rattle.std.proofs.Common.{refl, arith}
 use Rattle.frame.proofs.Scans.{written_at}
 use Rattle.frame.proofs.words.clear.Goals as goal
 

@@ -1,4 +1,4 @@
-use Rattle.std.proofs.Common.{◌≡◌, ℕ, min, get_or, refl, ap, ◌∙◌, arith}
+use Rattle.std.proofs.Common.{min, get_or, refl, ap, ◌∙◌, arith}
 use Rattle.tree.specs.Over.{least_to}
 use Rattle.frame.proofs.Scans.{least_next}
 use Rattle.frame.proofs.words.least.Goals as goal

@@ -1,5 +1,4 @@
-use Rattle.std.proofs.Common.{◌≡◌, ℕ, pred, ◌+◌, ◌-◌, min, length, get_or, refl, ap, ◌∙◌, arith}
-use Rattle.tree.proofs.Folds.{least_under}
+use Rattle.std.proofs.Common.{◌-◌, min, get_or, ap, ◌∙◌, arith}
 use Rattle.frame.specs.Words.{store_at}
 use Rattle.frame.proofs.Scans.{written_none, written_more}
 use Rattle.frame.proofs.words.store.Goals as goal

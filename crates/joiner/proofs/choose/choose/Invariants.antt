@@ -1,4 +1,4 @@
-use Rattle.std.proofs.Common.{◌≡◌, ◌≤◌, length, take}
+use Rattle.std.proofs.Common.{◌≡◌, ◌≤◌, take}
 use Rattle.joiner.specs.Level.{is_chosen, chosen}
 use Rattle.joiner.specs.Loops.{listed}
 use Rattle.joiner.proofs.choose.choose.Given as goal

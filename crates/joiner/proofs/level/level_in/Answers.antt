@@ -1,4 +1,4 @@
-use Rattle.std.proofs.Common.{◌≡◌, ◌+◌, ◌-◌, ◌<◌, length, get_or, ap, ◌∙◌, arith}
+use Rattle.std.proofs.Common.{◌≡◌, ◌+◌, ◌-◌, length, ap, ◌∙◌, arith}
 use Rattle.joiner.specs.Level.{first_from}
 use Rattle.joiner.specs.Loops.{number, passes}
 use Rattle.joiner.specs.Counts.{tallied_one, number_le, scanned}

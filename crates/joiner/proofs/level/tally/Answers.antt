@@ -1,4 +1,4 @@
-use Rattle.std.proofs.Common.{eqb, length, get_or, arith}
+use Rattle.std.proofs.Common.{eqb, get_or, arith}
 use Rattle.joiner.specs.Counts.{count_none, count_le, tally_more}
 use Rattle.joiner.proofs.level.tally.Goals as goal
 

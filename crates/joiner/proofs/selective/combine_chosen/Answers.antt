@@ -1,5 +1,5 @@
 use Rattle.std.proofs.Common.{◌≡◌, ◌-◌, ◌*◌, take, ◌∙◌, ap₂}
-use Rattle.joiner.specs.Level.{is_chosen, chosen}
+use Rattle.joiner.specs.Level.{is_chosen}
 use Rattle.joiner.specs.Loops.{listed, combined}
 use Rattle.joiner.specs.Counts.{front_listed, codes_listed, number_chosen}
 use Rattle.joiner.proofs.selective.combine_chosen.Goals as goal

@@ -1,4 +1,4 @@
-use Rattle.std.proofs.Common.{◌≡◌, ◌+◌, length, get_or, refl, ap, ◌∙◌, arith}
+use Rattle.std.proofs.Common.{get_or, refl, ap, ◌∙◌, arith}
 use Rattle.joiner.specs.Costs.{worse}
 use Rattle.joiner.proofs.Turns.{row_more, row_all}
 use Rattle.joiner.proofs.selective.combine_row.Goals as goal

@@ -1,4 +1,4 @@
-use Rattle.std.proofs.Common.{◌≡◌, ◌*◌, length, get_or, ap, ◌∙◌, arith}
+use Rattle.std.proofs.Common.{◌≡◌, ◌*◌, length, ap, ◌∙◌, arith}
 use Rattle.joiner.proofs.Turns.{rows_more, rows_all, pairs_more}
 use Rattle.joiner.proofs.selective.combine_rows.Goals as goal
 

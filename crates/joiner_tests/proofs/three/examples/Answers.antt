@@ -1,9 +1,8 @@
-use Rattle.std.proofs.Common.{◌≡◌, ℕ, List, Ok, Result, refl, ◌∙◌}
+use Rattle.std.proofs.Common.{◌≡◌, ℕ, List, Ok, refl, ◌∙◌}
 use Rattle.joiner.specs.Answers.{told, refusal_of}
 use Rattle.joiner.specs.Costs.{within}
 use Rattle.joiner.specs.Joined.{least_of, least, pairs_below, pairs_to, joined_at, joined_of}
 use Rattle.joiner.specs.Level.{count, chosen, first_from, level_of, selective_pairs}
-use Rattle.joiner.specs.declared.refusal.JoinRefusal.{JoinRefusal}
 use Rattle.joiner.proofs.Granted.{told_pairs}
 use Rattle.joiner_tests.specs.declared.outcome.Outcome.{Outcome}
 use Rattle.joiner_tests.specs.Worked.{worked}

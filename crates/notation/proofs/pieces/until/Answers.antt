@@ -1,4 +1,4 @@
-use Rattle.std.proofs.Common.{◌≡◌, ℕ, List, [], length, get_or, sym, ap, ◌∙◌, arith}
+use Rattle.std.proofs.Common.{ℕ, List, [], length, get_or, ap, arith}
 use Rattle.sheet.proofs.Splits.{split_stop, split_other, split_end}
 use Rattle.notation.proofs.pieces.until.Goals as goal
 

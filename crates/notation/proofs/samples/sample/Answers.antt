@@ -1,4 +1,4 @@
-use Rattle.std.proofs.Common.{◌≡◌, sym, ap, ◌∙◌, subst, arith}
+use Rattle.std.proofs.Common.{subst, arith}
 use Rattle.std.proofs.lemmas.List.{take_rest, get_or_past}
 use Rattle.notation.specs.Samples.{Measures}
 use Rattle.notation.proofs.samples.sample.Goals as goal

@@ -1,4 +1,4 @@
-use Rattle.std.proofs.Common.{◌≡◌, ◌+◌, length, drop, sym, ap, ◌∙◌, arith}
+use Rattle.std.proofs.Common.{◌+◌, length, drop, ap, arith}
 use Rattle.sheet.proofs.Splits.{split_stop, split_other, split_end, split_some}
 use Rattle.sheet.proofs.field.pieces.Goals as goal
 use Rattle.sheet.proofs.field.pieces.Goals.{then-b-stop, else-b-stop}

@@ -1,7 +1,7 @@
-use Rattle.std.proofs.Common.{◌≡◌, ◌+◌, refl, ◌∙◌, arith}
-use Rattle.sheet.specs.Words.{Cell, seen}
+use Rattle.std.proofs.Common.{◌+◌, refl, ◌∙◌, arith}
+use Rattle.sheet.specs.Words.{seen}
 use Rattle.sheet.specs.Lines.{header_of}
-use Rattle.sheet.proofs.Fields.{Stands, stands_second, cell_there, size_inside, next_there}
+use Rattle.sheet.proofs.Fields.{stands_second, cell_there, size_inside, next_there}
 use Rattle.sheet.proofs.line.header_from.Goals as goal
 
 pub part-q-requires : goal.part-q-requires

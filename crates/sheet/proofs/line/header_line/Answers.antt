@@ -1,7 +1,6 @@
-use Rattle.std.proofs.Common.{[], get_or, sym, ◌∙◌, arith}
+use Rattle.std.proofs.Common.{[], get_or, sym}
 use Rattle.std.proofs.lemmas.Result.{err_from_is_err_and}
 use Rattle.sheet.specs.declared.line.Due.TheVariants as due
-use Rattle.sheet.specs.declared.token.Kind.TheVariants as kind
 use Rattle.sheet.specs.Pieces.{fields}
 use Rattle.sheet.specs.Lines.{header_line}
 use Rattle.sheet.proofs.Tests.{on, out, begins, one_letter, only_header}

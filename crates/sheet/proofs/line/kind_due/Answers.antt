@@ -1,4 +1,4 @@
-use Rattle.std.proofs.Common.{◌≡◌, true, false, length, sym, ap, ◌∙◌}
+use Rattle.std.proofs.Common.{length, sym, ap, ◌∙◌}
 use Rattle.sheet.specs.Pieces.{fields}
 use Rattle.sheet.specs.Words.{Cell, record_kind}
 use Rattle.sheet.specs.Lines.{kind_due}

@@ -1,6 +1,5 @@
-use Rattle.std.proofs.Common.{◌≡◌, ◌-◌, length, Ok, Err, sym, refl, ap, ◌∙◌}
+use Rattle.std.proofs.Common.{◌-◌, length, Ok, Err, sym, ap, ◌∙◌}
 use Rattle.std.proofs.lemmas.Result.{err_from_is_err_and}
-use Rattle.sheet.specs.declared.line.Record.TheVariants as rec
 use Rattle.sheet.proofs.Walks.{here, final_ends, final_bad, final_edge, final_entry, final_more, final_end, reached_edge, reached_entry}
 use Rattle.sheet.proofs.read.fill_tables.Goals as goal
 

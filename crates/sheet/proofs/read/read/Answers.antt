@@ -1,6 +1,6 @@
-use Rattle.std.proofs.Common.{◌≡◌, length, take, Ok, Err, sym, refl, ap, ◌∙◌}
+use Rattle.std.proofs.Common.{length, sym, ap, ◌∙◌}
 use Rattle.std.proofs.lemmas.Result.{err_from_is_err_and}
-use Rattle.sheet.specs.Reading.{Reading, reading, judged}
+use Rattle.sheet.specs.Reading.{reading, judged}
 use Rattle.sheet.proofs.Complete.{inverts}
 use Rattle.sheet.proofs.Walks.{counted_ok, counted_err, filled_part, filled_fits}
 use Rattle.sheet.proofs.read.read.Goals as goal

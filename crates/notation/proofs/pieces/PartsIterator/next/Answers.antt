@@ -1,4 +1,4 @@
-use Rattle.std.proofs.Common.{◌≡◌, ◌-◌, ◌∷◌, length, take, sym, ap, ◌∙◌, arith, rules}
+use Rattle.std.proofs.Common.{◌-◌, ◌∷◌, length, take, sym, ap, ◌∙◌, arith, rules}
 use Rattle.notation.specs.Pieces.{pieces_of}
 use Rattle.notation.proofs.Steps.{step_on, step_end}
 use Rattle.notation.proofs.pieces.PartsIterator.next.Goals as goal
