@@ -18,7 +18,7 @@ pub data Made : Type 0 where
 
 abbrev pub made_of : AnyField → Made
 made_of (kind.Prime f) = prime f.q
-made_of (kind.Binary f) = binary f.rule.p f.rule.polynomial
+made_of (kind.Binary f) = binary f.p f.polynomial
 made_of (kind.Tower t) = tower (parts_of t)
 
 -- the field's order and tables

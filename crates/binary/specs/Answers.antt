@@ -11,7 +11,7 @@ refusal_of (Some e) = Some (number_of e)
 refusal_of None = None
 
 abbrev pub answer_of : Result Binary FieldRefusal → Result (ℕ × ℕ) ℕ
-answer_of (Ok f) = Ok (f.rule.p, f.rule.polynomial)
+answer_of (Ok f) = Ok (f.p, f.polynomial)
 answer_of (Err e) = Err (number_of e)
 
 -- in the order of testing: p outside 1 to 6, another degree than p, factors of lower degree

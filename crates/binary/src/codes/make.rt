@@ -30,12 +30,15 @@ impl Binary {
 
 // The field of a rule, with its tables filled.
 fn tabled(rule: Rule) -> Binary
-    ensures { result.rule ≡ rule }
+    ensures degree { result.p ≡ rule.p }
+    ensures polynomial { result.polynomial ≡ rule.polynomial }
 {
     let products = all_products(&rule);
     let inverses = all_inverses(&rule);
     Binary {
-        rule,
+        p: rule.p,
+        polynomial: rule.polynomial,
+        q: rule.q,
         products,
         inverses,
     }

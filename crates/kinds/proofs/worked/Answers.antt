@@ -11,7 +11,7 @@ returns-in-Err c = absurd (nine_made c.in-Ok-new.base.q c.in-Err.field-0 (three 
 
 pub returns : goal.returns
 returns c =
-    let b = nineteen c.in-Ok.binary.rule.p c.in-Ok.binary.rule.polynomial c.in-Ok.ensures.answer in
+    let b = nineteen c.in-Ok.binary.p c.in-Ok.binary.polynomial c.in-Ok.ensures.answer in
     let t = nine c.in-Ok-new.base.q (parts_of c.make_tower.new.tower) (parts_of c.of_four-tower.result) (three _ c.in-Ok-new.ensures.answer) c.in_default-make_tower.ensures.tower in
     let w = binary_product _ _ 8 2 _ 3 b c.in_ok-product.ensures examples.binary_once in
     let x = binary_product _ _ 8 8 _ 12 b c.in_ok-product-2.ensures examples.binary_square in

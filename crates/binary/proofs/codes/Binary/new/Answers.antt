@@ -1,9 +1,8 @@
-use Rattle.std.proofs.Common.{◌≡◌, ℕ, Bool, true, false, cond, ltb, Some, None, Ok, Option, Result, refl, ap, ◌∙◌, arith, ltb-false, le-leb}
+use Rattle.std.proofs.Common.{◌≡◌, ℕ, Bool, true, false, cond, ltb, Some, None, Ok, Option, Result, refl, ap, ap₂, ◌∙◌, arith, ltb-false, le-leb}
 use Rattle.std.proofs.lemmas.Nat.{one_shl}
 use Rattle.binary.specs.Polynomials.{has_degree, reducible}
 use Rattle.binary.specs.Fields.{is_binary}
 use Rattle.binary.specs.Answers.{binary_refusal, answer_by}
-use Rattle.binary.specs.declared.rule.Rule.{Rule}
 use Rattle.binary.specs.Laws.{made_of, meant}
 use Rattle.binary.proofs.Worked.{examples}
 use Rattle.binary.proofs.codes.Binary.new.Goals as goal
@@ -36,5 +35,5 @@ pub returns-in-None : goal.returns-in-None
 returns-in-None c =
     let p : ℕ = c.args.p in
     let m : ℕ = c.args.polynomial in
-    let same : ◌≡◌ {A = Result (ℕ × ℕ) ℕ} (Ok (c.tabled.result.rule.p, c.tabled.result.rule.polynomial)) (Ok (p, m)) = ap (λ (r : Rule). Ok (r.p, r.polynomial)) c.tabled.ensures in
+    let same : ◌≡◌ {A = Result (ℕ × ℕ) ℕ} (Ok (c.tabled.result.p, c.tabled.result.polynomial)) (Ok (p, m)) = ap₂ (λ x y. Ok (x, y)) c.tabled.ensures.degree c.tabled.ensures.polynomial in
     record { answer = same ∙ ap (answer_by p m) c.in-None.ensures; law = meant p m; examples = examples }

@@ -7,7 +7,7 @@ use Rattle.binary.proofs.codes.BinaryField.inverse.Goals.{else-a-gt0-via-then-a-
 
 pub returns-else-a-gt0 : goal.returns-else-a-gt0
 returns-else-a-gt0 c =
-    let s = c.args.self.now.rule in
+    let s = c.args.self.now in
     let all = inverses (binary_tables s.p s.polynomial) (binary_laws s.p s.polynomial s.admitted) in
     elim c.else-a-gt0.branch [
       | else-a-gt0-via-then-a-gt0+else-a-order w ↦ sym (all.refused c.args.a (inr (omega arith)))

@@ -3,7 +3,7 @@ use lib.Bits.{xor_self}
 use Rattle.field.proofs.Unique.{opposite_is}
 use Rattle.binary.specs.Fields.{binary_tables}
 use Rattle.binary.specs.Laws.{binary_laws}
-use Rattle.binary.proofs.rule.Rule.negated.Goals as goal
+use Rattle.binary.proofs.codes.Binary.negated.Goals as goal
 
 pub returns : goal.returns
 returns c =
