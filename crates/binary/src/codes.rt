@@ -1,12 +1,14 @@
 ghost use Rattle.std.specs.Prelude.{◌≡◌, ◌^◌, ◌<◌, true, Some};
-ghost use Rattle.field.specs.Tables.{opposite_of, inverse_of};
+ghost use Rattle.field.specs.Tables.{inverse_of};
 ghost use Rattle.field.specs.Grids.{grid, solutions};
 ghost use Rattle.binary.specs.Fields.{is_binary, binary_tables, product_by};
 ghost use Rattle.binary.specs.Laws.{binary_laws};
 
 use field::Field;
 
+mod inverses;
 mod make;
+mod products;
 mod tables;
 
 // A binary field of order 2^p: bit i of a code is the coefficient of power i, the sum is exclusive or,
@@ -25,7 +27,7 @@ pub struct Binary {
     ghost inverted: { inverses ≡ solutions q (product_by p polynomial) 1 },
 }
 
-// What the tables hold for codes: one read each. A code is its own opposite.
+// What the tables hold for codes: one read each.
 impl Binary {
     fn product_at(&self, a: u8, b: u8) -> u8
         requires { (a < self.now.q) × (b < self.now.q) }
@@ -39,14 +41,6 @@ impl Binary {
         ensures { Some result ≡ inverse_of (binary_tables self.now.p self.now.polynomial) a }
     {
         self.inverses[a as usize]
-    }
-
-    // The opposite of the code `a`: the code itself.
-    fn negated(&self, a: u8) -> u8
-        requires { a < 2 ^ self.now.p }
-        ensures { Some result ≡ opposite_of (binary_tables self.now.p self.now.polynomial) a }
-    {
-        a
     }
 }
 

@@ -2,9 +2,6 @@ ghost use Rattle.std.specs.Prelude.{◌≡◌, ◌^◌, true};
 ghost use Rattle.field.specs.Tables.{product_of, inverse_of};
 ghost use Rattle.binary.specs.Fields.{is_binary, binary_tables};
 
-mod inverses;
-mod products;
-
 // How a binary field of order 2^p multiplies: bit i of a code is the coefficient of power i,
 // and the product is reduced by an irreducible polynomial of degree p, written the same way.
 #[derive(Clone, Copy)]

@@ -26,9 +26,32 @@ fn pick(costs: &[u16], codes: &[u8], picked: &mut [u16])
     }
 }
 
-// Combines the left entry of code b with the right entries of `rights`, whose costs stand beside them, and tells how many these are.
-// Costs that are read one after another keep the processor from guessing which of two is the greater.
+// Combines the left entry of code b with the right entries of `rights`, and tells how many these are.
 fn combine_row<F: Field>(
+    field: &F,
+    b: u8,
+    left: &[u16],
+    right: &[u16],
+    rights: &[u8],
+    joined: &mut [u16],
+) -> u32
+    requires code { b < (F.Field.meaning field.now).order }
+    requires long { (length left.now ≡ (F.Field.meaning field.now).order) × ((length right.now ≡ (F.Field.meaning field.now).order) × (length joined.old ≡ (F.Field.meaning field.now).order)) }
+    requires rights { (length rights.now ≤ 64) × (((k : ℕ) → k < length rights.now → slice_index rights.now k < (F.Field.meaning field.now).order)) }
+    ensures count { result ≡ length rights.now }
+    ensures joined { joined.new ≡ rowed (F.Field.meaning field.now) left.now right.now b rights.now joined.old }
+{
+    let x = left[b as usize];
+    let mut pairs = 0;
+    for c in rights {
+        pairs = combine_pair(field, b, *c, worse(x, right[*c as usize]), joined, pairs);
+    }
+    pairs
+}
+
+// The same where the costs of the right entries stand beside them.
+// Costs that are read one after another keep the processor from guessing which of two is the greater.
+fn combine_picked<F: Field>(
     field: &F,
     b: u8,
     left: &[u16],
@@ -68,7 +91,7 @@ fn combine_rows<F: Field>(
 {
     let mut pairs = 0;
     for b in lefts {
-        pairs += combine_row(field, *b, left, costs, rights, joined);
+        pairs += combine_picked(field, *b, left, costs, rights, joined);
     }
     pairs
 }
@@ -109,6 +132,10 @@ fn combine<F: Field>(
     ensures count { result ≡ length lefts.now * length rights.now }
     ensures joined { joined.new ≡ combined (F.Field.meaning field.now) left.now right.now lefts.now rights.now joined.old }
 {
+    // One left entry reads each right cost once, so none is picked beforehand.
+    if lefts.len() == 1 {
+        return combine_row(field, lefts[0], left, right, rights, joined);
+    }
     let mut costs = [0u16; 64];
     let n = rights.len();
     combine_by(field, left, lefts, right, rights, &mut costs[0..n], joined)

@@ -1,7 +1,7 @@
 ghost use Rattle.std.specs.Prelude.{◌≡◌, ◌^◌, ◌<◌};
 ghost use Rattle.binary.specs.Fields.{doubled_by, product_by};
 
-use super::Rule;
+use crate::rule::Rule;
 
 // Products stand in innermost loops: a turn has no branch, and whole words spare the narrowing of bytes.
 impl Rule {
@@ -16,7 +16,7 @@ impl Rule {
     }
 
     // The product of two codes, in p turns: `a` shifted by i is added for each power i of `b`.
-    pub(super) fn times(&self, a: u8, b: u8) -> u8
+    pub(crate) fn times(&self, a: u8, b: u8) -> u8
         requires left { a < 2 ^ self.now.p }
         requires right { b < 2 ^ self.now.p }
         ensures { result ≡ product_by self.now.p self.now.polynomial a b }
