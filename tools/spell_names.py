@@ -77,6 +77,8 @@ def main():
     fields = fields_of(texts)
     for p, t in sorted(texts.items()):
         here = {n: s for n, s in turn.items() if n not in ONLY_IN or os.path.join("crates", ONLY_IN[n], "") in p}
+        # names under which a file brings others in
+        here |= {n: spelled(n) for n in re.findall(r" as ([a-z]+[A-Z]\w*)", t)}
         new = turned(t, here, fields, p.endswith(".rt"))
         if p.endswith("crates/binary/specs/Fields.antt"):
             # one word of the library, which had two spellings

@@ -1,7 +1,7 @@
 -- A field as text: `prime:q`, `binary:p:polynomial`, or `tower:FIELD:u:v` with a field inside. Assumes nothing.
 use Rattle.std.specs.Prelude.{ℕ, zero, suc, cond, List, [], ◌∷◌, drop, Some, None, Ok, Err, codes, Option, Result}
 use Rattle.std.specs.Str.{bytes_eq}
-use Rattle.field.specs.Refusals.{number_of as refusalNumber}
+use Rattle.field.specs.Refusals.{number_of as refusal_number}
 use Rattle.prime.specs.Primes.{prime_answer}
 use Rattle.binary.specs.Answers.{binary_answer}
 use Rattle.sheet.specs.Pieces.{split}
@@ -18,7 +18,7 @@ pub data Fault : Type 0 where
 
 abbrev pub fault_of : FieldFault → Fault
 fault_of NotWritten = not_written
-fault_of (Refused e) = refused (refusalNumber e)
+fault_of (Refused e) = refused (refusal_number e)
 
 abbrev pub answered : Result AnyField FieldFault → Result Made Fault
 answered (Ok f) = Ok (made_of f)

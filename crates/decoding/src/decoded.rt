@@ -2,8 +2,8 @@ ghost use Rattle.std.specs.Prelude.{◌≡◌, length, if◌then◌else◌, Some
 ghost use Rattle.code.specs.Views.{view};
 ghost use Rattle.due.specs.Refusals.{number_of};
 ghost use Rattle.tree.specs.Frame.{refused, grants, parts_of, word_of};
-ghost use Rattle.tree.specs.Decoding.{fails, at_end, rounds_to, stopped, decoding as decodingOf, OwnRun, DecodingStands};
-ghost use Rattle.decoding.specs.Ends.{frame_of, last_failing, decoded as decodedBy, slip_back, failing_back, AreaAtEnd};
+ghost use Rattle.tree.specs.Decoding.{fails, at_end, rounds_to, stopped, decoding as decoding_of, OwnRun, DecodingStands};
+ghost use Rattle.decoding.specs.Ends.{frame_of, last_failing, decoded as decoded_by, slip_back, failing_back, AreaAtEnd};
 
 use crate::settling::settle;
 use code::code::Code;
@@ -51,11 +51,11 @@ pub fn decode<F: Field, J: Joiner>(
     area: &mut [u16],
     word: &mut [u8],
 ) -> Result<u16, NotDecoded>
-    ensures answer { decodedBy result word.new ≡ decodingOf (F.Field.meaning field.now) (view code.now) (J.Joiner.pairs joiner.now) (length word.old) (frame_of area.old slip) }
-    ensures back { slip_back result ≡ (if grants (decodingOf (F.Field.meaning field.now) (view code.now) (J.Joiner.pairs joiner.now) (length word.old) (frame_of area.old slip)) then None else Some (at_end (F.Field.meaning field.now) (view code.now) (J.Joiner.pairs joiner.now) (length word.old) (frame_of area.old slip)).slip) }
-    ensures failing { failing_back result ≡ (if grants (decodingOf (F.Field.meaning field.now) (view code.now) (J.Joiner.pairs joiner.now) (length word.old) (frame_of area.old slip)) then None else last_failing (rounds_to (F.Field.meaning field.now) (view code.now) (J.Joiner.pairs joiner.now) (length word.old) (frame_of area.old slip)) (fails (F.Field.meaning field.now) (view code.now) (at_end (F.Field.meaning field.now) (view code.now) (J.Joiner.pairs joiner.now) (length word.old) (frame_of area.old slip)))) }
+    ensures answer { decoded_by result word.new ≡ decoding_of (F.Field.meaning field.now) (view code.now) (J.Joiner.pairs joiner.now) (length word.old) (frame_of area.old slip) }
+    ensures back { slip_back result ≡ (if grants (decoding_of (F.Field.meaning field.now) (view code.now) (J.Joiner.pairs joiner.now) (length word.old) (frame_of area.old slip)) then None else Some (at_end (F.Field.meaning field.now) (view code.now) (J.Joiner.pairs joiner.now) (length word.old) (frame_of area.old slip)).slip) }
+    ensures failing { failing_back result ≡ (if grants (decoding_of (F.Field.meaning field.now) (view code.now) (J.Joiner.pairs joiner.now) (length word.old) (frame_of area.old slip)) then None else last_failing (rounds_to (F.Field.meaning field.now) (view code.now) (J.Joiner.pairs joiner.now) (length word.old) (frame_of area.old slip)) (fails (F.Field.meaning field.now) (view code.now) (at_end (F.Field.meaning field.now) (view code.now) (J.Joiner.pairs joiner.now) (length word.old) (frame_of area.old slip)))) }
     ensures area { AreaAtEnd (F.Field.meaning field.now) (view code.now) (J.Joiner.pairs joiner.now) (length word.old) (frame_of area.old slip) area.new }
-    ensures word { word.new ≡ (if grants (decodingOf (F.Field.meaning field.now) (view code.now) (J.Joiner.pairs joiner.now) (length word.old) (frame_of area.old slip)) then word_of (view code.now) (parts_of (view code.now) area.new) else word.old) }
+    ensures word { word.new ≡ (if grants (decoding_of (F.Field.meaning field.now) (view code.now) (J.Joiner.pairs joiner.now) (length word.old) (frame_of area.old slip)) then word_of (view code.now) (parts_of (view code.now) area.new) else word.old) }
     ensures run { OwnRun (F.Field.meaning field.now) (view code.now) (J.Joiner.pairs joiner.now) (length word.old) (frame_of area.old slip) area.new }
     ensures law { DecodingStands }
 {

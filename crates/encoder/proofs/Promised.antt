@@ -93,13 +93,13 @@ module _ (t : Tables) (l : Lawful t) (H : Matrix) (E : Entries t.order H) (r : A
         let long : length s ≡ information_columns t H = omega arith in
         record { long = long; below = λ i h. codes i (omega arith) }
 
-    word-is : r ≡ Ok tt → w ≡ the_word t H s
-    word-is o = word ∙ ap (λ (x : Answer). cond (granted x) (the_word t H s) old) o
+    word_is : r ≡ Ok tt → w ≡ the_word t H s
+    word_is o = word ∙ ap (λ (x : Answer). cond (granted x) (the_word t H s) old) o
 
     pub encoding_law : EncodingLaw t H s w r
     encoding_law = record {
-      only = λ o. subst (λ (v : List ℕ). Encoded t H s v) (sym (word-is o)) (only_word t l H E s (symbols o));
-      back = λ o. ap (symbols_of t H) (word-is o) ∙ extracts t l H E s (symbols o);
+      only = λ o. subst (λ (v : List ℕ). Encoded t H s v) (sym (word_is o)) (only_word t l H E s (symbols o));
+      back = λ o. ap (symbols_of t H) (word_is o) ∙ extracts t l H E s (symbols o);
       depend = λ f. (rows_told t H).some (dependent_then f);
       apart = λ o. (rows_told t H).none (independent_then o);
     }

@@ -1,7 +1,7 @@
 ghost use Rattle.std.specs.Prelude.{◌≡◌, ◌≤◌, length, if◌then◌else◌, ◌==◌};
 ghost use Rattle.code.specs.Views.{view};
 ghost use Rattle.tree.specs.Frame.{area_words, parts_of, decided, word_of};
-ghost use Rattle.tree.specs.Frame.{failing as failingRows};
+ghost use Rattle.tree.specs.Frame.{failing as failing_rows};
 
 use crate::checks::failing;
 use crate::decide::decide;
@@ -13,7 +13,7 @@ use field::Field;
 fn failing_by<F: Field>(field: &F, code: &Code, area: &[u16], word: &mut [u8]) -> u16
     requires order { (F.Field.meaning field.now).order ≡ (view code.now).header.order }
     requires room { (area_words (view code.now) ≤ length area.now) × (length word.old ≡ (view code.now).header.columns) }
-    ensures answer { result ≡ failingRows (F.Field.meaning field.now) (view code.now) (decided (view code.now) (parts_of (view code.now) area.now)) }
+    ensures answer { result ≡ failing_rows (F.Field.meaning field.now) (view code.now) (decided (view code.now) (parts_of (view code.now) area.now)) }
     ensures word { word.new ≡ word_of (view code.now) (parts_of (view code.now) area.now) }
 {
     let header = code.header();
@@ -25,7 +25,7 @@ fn failing_by<F: Field>(field: &F, code: &Code, area: &[u16], word: &mut [u8]) -
 pub fn failing_rows<F: Field>(field: &F, code: &Code, area: &[u16]) -> u16
     requires order { (F.Field.meaning field.now).order ≡ (view code.now).header.order }
     requires room { area_words (view code.now) ≤ length area.now }
-    ensures { result ≡ failingRows (F.Field.meaning field.now) (view code.now) (decided (view code.now) (parts_of (view code.now) area.now)) }
+    ensures { result ≡ failing_rows (F.Field.meaning field.now) (view code.now) (decided (view code.now) (parts_of (view code.now) area.now)) }
 {
     let mut word = [0u8; 256];
     let n = code.header().columns as usize;
@@ -42,7 +42,7 @@ fn decided_by<F: Field>(
 ) -> bool
     requires order { (F.Field.meaning field.now).order ≡ (view code.now).header.order }
     requires room { (area_words (view code.now) ≤ length area.now) × ((length found.old ≡ (view code.now).header.columns) × (length word.old ≡ (view code.now).header.columns)) }
-    ensures answer { result ≡ (failingRows (F.Field.meaning field.now) (view code.now) (decided (view code.now) (parts_of (view code.now) area.now)) == 0) }
+    ensures answer { result ≡ (failing_rows (F.Field.meaning field.now) (view code.now) (decided (view code.now) (parts_of (view code.now) area.now)) == 0) }
     ensures word { word.new ≡ (if result then word_of (view code.now) (parts_of (view code.now) area.now) else word.old) }
 {
     if !none_fails(failing_by(field, code, area, found)) {
@@ -56,7 +56,7 @@ fn decided_by<F: Field>(
 pub fn decided_word<F: Field>(field: &F, code: &Code, area: &[u16], word: &mut [u8]) -> bool
     requires order { (F.Field.meaning field.now).order ≡ (view code.now).header.order }
     requires room { (area_words (view code.now) ≤ length area.now) × (length word.old ≡ (view code.now).header.columns) }
-    ensures answer { result ≡ (failingRows (F.Field.meaning field.now) (view code.now) (decided (view code.now) (parts_of (view code.now) area.now)) == 0) }
+    ensures answer { result ≡ (failing_rows (F.Field.meaning field.now) (view code.now) (decided (view code.now) (parts_of (view code.now) area.now)) == 0) }
     ensures word { word.new ≡ (if result then word_of (view code.now) (parts_of (view code.now) area.now) else word.old) }
 {
     let mut found = [0u8; 256];

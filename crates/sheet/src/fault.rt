@@ -1,6 +1,6 @@
 ghost use Rattle.std.specs.Prelude.{◌≡◌};
 ghost use Rattle.sheet.specs.Faults.{number_of, layer_of, spot_of};
-ghost use Rattle.code.specs.Faults.{number as codeNumber, place as codePlace};
+ghost use Rattle.code.specs.Faults.{number as code_number, place as code_place};
 
 use code::fault::CodeFault;
 
@@ -44,7 +44,7 @@ pub enum Spot {
 }
 
 fn code_number(fault: CodeFault) -> u8
-    ensures answer { result ≡ codeNumber fault }
+    ensures answer { result ≡ code_number fault }
 {
     match fault {
         CodeFault::OutOfRange(_) => 12,
@@ -55,7 +55,7 @@ fn code_number(fault: CodeFault) -> u8
 }
 
 fn code_place(fault: CodeFault) -> usize
-    ensures answer { result ≡ codePlace fault }
+    ensures answer { result ≡ code_place fault }
 {
     match fault {
         CodeFault::OutOfRange(position) => position,
