@@ -3,4 +3,5 @@ pub mod Faults
 pub mod Laws
 pub mod Places
 pub mod Rules
+pub mod Texts
 pub mod Views

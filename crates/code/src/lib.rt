@@ -3,6 +3,7 @@
 pub mod code;
 mod degrees;
 pub mod fault;
+pub mod numbers;
 mod order;
 mod pairs;
 mod ranges;

@@ -15,7 +15,7 @@ use Rattle.sheet.specs.declared.line.Due.{Due}
 use Rattle.sheet.specs.declared.line.Due.TheVariants as due
 use Rattle.sheet.specs.declared.line.Record.{Record}
 use Rattle.sheet.specs.declared.line.Record.TheVariants as rec
-use Rattle.sheet.specs.declared.read.Numbers.{Numbers}
+use Rattle.code.specs.declared.numbers.Numbers.{Numbers}
 use Rattle.sheet.specs.Pieces.{lines, fields}
 use Rattle.sheet.specs.Lines.{is_due, header_line, record_line}
 use Rattle.sheet.specs.Reading.{Reading, below, closing, step, walk, onward, top, from, reading, numbers, admitted, judged}

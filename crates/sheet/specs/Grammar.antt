@@ -5,7 +5,7 @@ use Rattle.code.specs.declared.table.Edge.{Edge}
 use Rattle.code.specs.declared.table.Entry.{Entry}
 use Rattle.code.specs.declared.table.Header.{Header}
 use Rattle.code.specs.Admission.{admission}
-use Rattle.sheet.specs.declared.read.Numbers.{Numbers}
+use Rattle.code.specs.declared.numbers.Numbers.{Numbers}
 use Rattle.sheet.specs.Reading.{reading, numbers, answer}
 
 -- each field behind a tab

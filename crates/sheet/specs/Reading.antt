@@ -13,7 +13,7 @@ use Rattle.sheet.specs.declared.line.Due.TheVariants as due
 use Rattle.sheet.specs.declared.line.Record.{Record}
 use Rattle.sheet.specs.declared.line.Record.TheVariants as rec
 use Rattle.sheet.specs.declared.read.Filled.{Filled}
-use Rattle.sheet.specs.declared.read.Numbers.{Numbers}
+use Rattle.code.specs.declared.numbers.Numbers.{Numbers}
 use Rattle.sheet.specs.Pieces.{lines, fields}
 use Rattle.sheet.specs.Lines.{header_line, record_line}
 

@@ -8,18 +8,8 @@ use crate::fault::{Place, SheetFault};
 use crate::field::until;
 use crate::line::{Due, Record, header_line, record_line};
 use code::code::admit::fault_of;
+pub use code::numbers::Numbers;
 use code::table::{Edge, Entry, Header};
-
-// The numbers of a code that was read: q, N, M, W, C and L.
-#[derive(Clone, Copy, PartialEq, Eq, Debug)]
-pub struct Numbers {
-    pub order: u16,
-    pub columns: u16,
-    pub rows: u16,
-    pub edges: usize,
-    pub ceiling: u16,
-    pub limit: u16,
-}
 
 // The header of a whole sheet, and how many records it filled in.
 #[derive(Clone, Copy)]
