@@ -1,6 +1,7 @@
 -- What a join that is not refused was given, and when none is refused. Assumes nothing.
-use Rattle.std.proofs.Common.{◌≡◌, ℕ, zero, suc, ◌≤◌, Bool, true, false, ◌&&◌, eqb, leb, List, [], ◌∷◌, length, is_ok, Some, None, Ok, Err, Option, Result, refl, arith}
+use Rattle.std.proofs.Common.{◌≡◌, ℕ, ap, zero, suc, ◌≤◌, Bool, true, false, ◌&&◌, eqb, leb, List, [], ◌∷◌, length, is_ok, Some, None, Ok, Err, Option, Result, refl, arith}
 use Rattle.std.proofs.lemmas.Bool.{and_parts, and_from, leb-true, eqb-true, le-leb, eq-eqb}
+use Rattle.std.specs.List.{list_all}
 use Rattle.joiner.specs.Costs.{within, Low}
 use Rattle.joiner.specs.Answers.{told, first_of, refusal_of, or_refusal}
 use Rattle.joiner.specs.declared.refusal.JoinRefusal.{JoinRefusal}
@@ -10,6 +11,11 @@ unfolding within
 within_low top [] e a = omega arith
 within_low top (x ∷ xs) e zero = leb-true x top (and_parts (leb x top) (within top xs) e).0
 within_low top (x ∷ xs) e (suc a) = within_low top xs (and_parts (leb x top) (within top xs) e).1 a
+
+pub each_within : (top : ℕ) (v : List ℕ) → list_all (λ cost. leb cost top) v ≡ within top v
+unfolding within
+each_within top [] = refl
+each_within top (x ∷ xs) = ap (λ b. leb x top && b) (each_within top xs)
 
 pub low_within : (top : ℕ) (v : List ℕ) → Low top v → within top v ≡ true
 unfolding within

@@ -2,7 +2,7 @@ ghost use Rattle.std.specs.Prelude.{◌≡◌, ◌≤◌, length, take};
 ghost use Rattle.joiner.specs.Level.{is_chosen, chosen};
 ghost use Rattle.joiner.specs.Loops.{listed};
 
-use crate::cost::not_above;
+use crate::costs::not_above;
 
 // Lists the codes whose cost is not above the level, rising, and tells how many.
 // Every code is written, and the next one over it unless it is chosen: no branch to mispredict.

@@ -5,11 +5,11 @@ ghost use Rattle.joiner.specs.Joined.{joined_of, IsJoin};
 ghost use Rattle.joiner.specs.Loops.{rowed, combined};
 ghost use Rattle.std.proofs.Common.{rules};
 
-use crate::cost::worse;
+use crate::admitted::admitted;
+use crate::costs::worse;
 use crate::joiner::Joiner;
 use crate::pair::{clear, combine_pair};
 use crate::refusal::JoinRefusal;
-use crate::refused::refused;
 use field::Field;
 
 // Combines the left entry of code b with every right entry, and tells how many pairs these are.
@@ -73,9 +73,7 @@ impl Joiner for Full {
         right: &[u16],
         joined: &mut [u16],
     ) -> Result<u32, JoinRefusal> {
-        if let Some(refusal) = refused(field.order() as usize, ceiling, left, right, joined.len()) {
-            return Err(refusal);
-        }
+        admitted(field.order() as usize, ceiling, left, right, joined.len())?;
         Ok(join_granted(field, ceiling, left, right, joined))
     }
 }

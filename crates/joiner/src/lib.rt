@@ -1,13 +1,13 @@
 #![tactic(auto)]
 
+mod admitted;
 mod choose;
-mod cost;
+mod costs;
 mod full;
 mod joiner;
 mod level;
 mod pair;
 mod refusal;
-mod refused;
 mod selective;
 
 pub use full::Full;

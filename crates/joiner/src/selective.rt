@@ -6,13 +6,13 @@ ghost use Rattle.joiner.specs.Loops.{listed, Picked, rowed, combined};
 ghost use Rattle.std.proofs.lemmas.Nat.{mul-le};
 ghost use Rattle.joiner.specs.Counts.{count_le};
 
+use crate::admitted::admitted;
 use crate::choose::choose;
-use crate::cost::worse;
+use crate::costs::worse;
 use crate::joiner::Joiner;
 use crate::level::level_of;
 use crate::pair::{clear, combine_pair};
 use crate::refusal::JoinRefusal;
-use crate::refused::refused;
 use field::Field;
 
 // Writes the costs of the codes, one after another.
@@ -194,9 +194,7 @@ impl Joiner for Selective {
         right: &[u16],
         joined: &mut [u16],
     ) -> Result<u32, JoinRefusal> {
-        if let Some(refusal) = refused(field.order() as usize, ceiling, left, right, joined.len()) {
-            return Err(refusal);
-        }
+        admitted(field.order() as usize, ceiling, left, right, joined.len())?;
         Ok(join_granted(field, ceiling, left, right, joined))
     }
 }

@@ -1,22 +1,23 @@
 ghost use Rattle.std.specs.Prelude.{◌≡◌, ◌&&◌};
+ghost use Rattle.std.specs.Result.{result_err};
 ghost use Rattle.joiner.specs.Answers.{numbered, first_of, in_range, are_long, refusal_of};
 ghost use Rattle.joiner.specs.Costs.{within};
 
-use crate::cost::within;
 use crate::refusal::JoinRefusal;
+use cost::within;
 
 // The first refusal, in the order of testing.
-fn first(range: bool, long: bool, low: bool) -> Option<JoinRefusal>
-    ensures { numbered result ≡ first_of range long low }
+fn first(range: bool, long: bool, low: bool) -> Result<(), JoinRefusal>
+    ensures { numbered (result_err result) ≡ first_of range long low }
 {
     if !range {
-        Some(JoinRefusal::Ceiling)
+        Err(JoinRefusal::Ceiling)
     } else if !long {
-        Some(JoinRefusal::Length)
+        Err(JoinRefusal::Length)
     } else if !low {
-        Some(JoinRefusal::Cost)
+        Err(JoinRefusal::Cost)
     } else {
-        None
+        Ok(())
     }
 }
 
@@ -41,15 +42,15 @@ fn are_low(ceiling: u16, left: &[u16], right: &[u16]) -> bool
     within(ceiling, left) && within(ceiling, right)
 }
 
-// Why a join is refused; `target` is how long the third vector is.
-pub(crate) fn refused(
+// Admits a join, or tells why it is refused; `target` is how long the third vector is.
+pub(crate) fn admitted(
     q: usize,
     ceiling: u16,
     left: &[u16],
     right: &[u16],
     target: usize,
-) -> Option<JoinRefusal>
-    ensures { numbered result ≡ refusal_of q ceiling left.now right.now target }
+) -> Result<(), JoinRefusal>
+    ensures { numbered (result_err result) ≡ refusal_of q ceiling left.now right.now target }
 {
     first(
         in_range(ceiling),

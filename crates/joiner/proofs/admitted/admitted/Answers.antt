@@ -1,5 +1,5 @@
 use Rattle.joiner.specs.Answers.{refusal_of}
-use Rattle.joiner.proofs.refused.refused.Goals as goal
+use Rattle.joiner.proofs.admitted.admitted.Goals as goal
 
 pub returns : goal.returns
 unfolding refusal_of
