@@ -1,8 +1,10 @@
 -- One row after another. Assumes nothing.
-use Rattle.std.proofs.Common.{◌≡◌, ℕ, zero, suc, ◌+◌, ◌-◌, ◌<◌, ◌≤◌, min, ltb, ◌≢◌, ◌⊎◌, List, length, take, drop, sym, refl, ap, ◌∙◌, subst, ap₂, inl, inr, add-one, arith}
+use Rattle.std.proofs.Common.{◌≡◌, ℕ, zero, suc, ◌+◌, ◌-◌, ◌<◌, ◌≤◌, min, Bool, true, false, cond, not, eqb, ltb, ◌≢◌, ◌⊎◌, List, length, take, drop, Some, None, position, sym, refl, ap, ◌∙◌, subst, ap₂, inl, inr, add-one, arith}
 use Rattle.std.proofs.lemmas.List.{get_or-take, get_or-drop}
 use Rattle.std.proofs.lemmas.List.Edits.{length-between}
-use Rattle.std.proofs.lemmas.Bool.{cases_lt, lt-ltb, le-ltb, cond_both, ltb-true, ltb-false}
+use Rattle.std.proofs.lemmas.Bool.{cases_lt, lt-ltb, le-ltb, cond_both, eqb-true, not-false, ltb-true, ltb-false}
+use Rattle.std.proofs.lemmas.List.Sums.{fails_before_first}
+use Rattle.std.specs.List.{position_or_len}
 use Rattle.tree.specs.Over.{over, count}
 use Rattle.field.specs.Tables.{Tables}
 use Rattle.tree.proofs.Folds.{over_tests}
@@ -11,7 +13,7 @@ use Rattle.tree.specs.Rows.{gathered, forth, back, around, row_pairs}
 use Rattle.frame.specs.Blocks.{block}
 use Rattle.frame.specs.Row.{row_vectors, coefficient_at, RowDone}
 use Rattle.frame.specs.AllRows.{starts, last_of, coefficients_of, vectors_of, read_of, rows_pairs, RowsTo, Cut}
-use Rattle.frame.specs.Columns.{row_at}
+use Rattle.frame.specs.Columns.{edge_at, row_at}
 use Rattle.code.specs.declared.table.Edge.{Edge}
 use Rattle.frame.proofs.Turns.{around_same, forth_same, back_same, forth_pairs_same, back_pairs_same, pairs_same}
 
@@ -66,8 +68,37 @@ cut_more edges r first end rising C lo hi same next = record { within = hi; lowe
         omega (arith, rising end x h l)
 
 -- ---- a part of the edges
+pub part_edge : (edges : List Edge) (first end i : ℕ) → i < end - first → edge_at (take (end - first) (drop first edges)) i ≡ edge_at edges (first + i)
+part_edge edges first end i h = get_or-take (end - first) (drop first edges) i _ h ∙ get_or-drop first edges i _
+
+-- up to where the first edge of another row stands in a part, all are of the row
+pub of_row : (edges : List Edge) (first r n : ℕ) → let part = take (length edges - first) (drop first edges) in
+    n ≤ position_or_len (λ (e : Edge). not (eqb e.row r)) part → (x : ℕ) → first ≤ x → x < first + n → x < length edges → row_at edges x ≡ r
+of_row edges first r n h x l m o =
+    let part : List Edge = take (length edges - first) (drop first edges) in
+    let k : ℕ = x - first in
+    let z : first + k ≡ x = omega arith in
+    let f = fails_before_first (λ (e : Edge). not (eqb e.row r)) part k (record { row = 0; column = 0; coefficient = 0 }) (omega (arith, h)) in
+    let e : row_at part k ≡ r = eqb-true (row_at part k) r (not-false (eqb (row_at part k) r) f) in
+    subst (λ y. row_at edges y ≡ r) z (ap (λ e. e.row) (sym (part_edge edges first (length edges) k (omega arith))) ∙ e)
+
+-- where `position` answers
+pub found_first : {X : Type 0} (p : X → Bool) (xs : List X) (n : ℕ) → position p xs ≡ Some n → n ≡ position_or_len p xs
+found_first p xs n e = go (ltb (position_or_len p xs) (length xs)) e
+  where
+    go : (b : Bool) → cond b (Some (position_or_len p xs)) None ≡ Some n → n ≡ position_or_len p xs
+    go true e = cc
+    go false e = let f : ◌≡◌ {A = ℕ} 0 1 = cc in absurd (let z : ⊥ = omega arith in z)
+
+pub none_found : {X : Type 0} (p : X → Bool) (xs : List X) → position p xs ≡ None → length xs ≤ position_or_len p xs
+none_found p xs e = go (ltb (position_or_len p xs) (length xs)) refl e
+  where
+    go : (b : Bool) → ltb (position_or_len p xs) (length xs) ≡ b → cond b (Some (position_or_len p xs)) None ≡ None → length xs ≤ position_or_len p xs
+    go true h e = let f : ◌≡◌ {A = ℕ} 0 1 = cc in absurd (let z : ⊥ = omega arith in z)
+    go false h e = ltb-false (position_or_len p xs) (length xs) h
+
 pub part_coefficient : (edges : List Edge) (first end i : ℕ) → i < end - first → coefficient_at (take (end - first) (drop first edges)) i ≡ coefficient_at edges (first + i)
-part_coefficient edges first end i h = ap (λ z. z.coefficient) (get_or-take (end - first) (drop first edges) i _ h ∙ get_or-drop first edges i _)
+part_coefficient edges first end i h = ap (λ z. z.coefficient) (part_edge edges first end i h)
 
 pub part_length : (edges : List Edge) (first end : ℕ) → end ≤ length edges → length (take (end - first) (drop first edges)) ≡ end - first
 part_length edges first end h = length-between edges first end h

@@ -23,6 +23,7 @@ use Rattle.tree.proofs.Rows.{length_tabled, at_tabled, tabled_block, row_in, row
 use Rattle.tree.proofs.Bounds.{from_low, column_low, edge_sum}
 use Rattle.tree.proofs.Follow.{held_is}
 use Rattle.frame.specs.Blocks.{block, blocks, Filled}
+use Rattle.frame.proofs.Summed.{least_same}
 use Rattle.frame.specs.Columns.{column_at, entry_at, edge_of, word, rests, lowered, SummedTo}
 use Rattle.frame.specs.AllRows.{starts, last_of, vectors_of, read_of, rows_pairs, RowsTo}
 use Rattle.frame.specs.Round.{Ready, Moved}
@@ -34,11 +35,6 @@ use Rattle.frame.proofs.Places.{position_stands}
 pub word_at : (q j a : ℕ) (area : List ℕ) → a < q → word q area j a ≡ get_or area (j * q + a) 0
 unfolding block
 word_at q j a area h = get_or-take q (drop (j * q) area) a 0 h ∙ get_or-drop (j * q) area a 0
-
-pub least_same : (n : ℕ) (f g : ℕ → ℕ) → ((b : ℕ) → b ≤ n → f b ≡ g b) → least_to n f ≡ least_to n g
-unfolding least_to
-least_same zero f g h = h 0 (omega arith)
-least_same (suc n) f g h = ap₂ min (least_same n f g (λ b l. h b (omega arith))) (h (suc n) (omega arith))
 
 lowered_is : (q top : ℕ) (v w : List ℕ) (f : ℕ → ℕ) (a : ℕ) → a < q → ((b : ℕ) → b < q → rests v w b ≡ f b) → get_or (lowered q top v w) a 0 ≡ min (f a - least_to (pred q) f) top
 unfolding lowered

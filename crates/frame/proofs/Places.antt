@@ -1,6 +1,8 @@
 -- Where a row and a column stand in the row table. Assumes nothing.
-use Rattle.std.proofs.Common.{◌≡◌, ℕ, pred, ◌<◌, ◌≤◌, Bool, true, false, cond, ◌&&◌, eqb, ltb, ◌⊎◌, List, length, refl, ap, ◌∙◌, inl, inr, arith}
-use Rattle.std.proofs.lemmas.Bool.{eq-eqb, eqb-true, ltb-true, ltb-false, and_from, and_parts, and_cases, or_cases, or_parts, cases_order}
+use Rattle.std.proofs.Common.{◌≡◌, ℕ, pred, ◌<◌, ◌≤◌, Bool, true, false, cond, ◌&&◌, eqb, ltb, ◌⊎◌, List, length, get_or, sym, refl, ap, ◌∙◌, subst, inl, inr, arith}
+use Rattle.std.proofs.lemmas.Bool.{eq-eqb, eqb-true, lt-ltb, or_left, or_right, ltb-true, ltb-false, and_from, and_parts, and_cases, or_cases, or_parts, cases_order}
+use Rattle.std.proofs.lemmas.List.{get_or_default}
+use Rattle.std.specs.List.Sorted.{IsPartitionedBy, IsPartitionPoint}
 use Rattle.code.specs.declared.table.Edge.{Edge}
 use Rattle.tree.specs.Over.{lowest_to}
 use Rattle.tree.proofs.Words.{lowest_low, lowest_under}
@@ -90,3 +92,60 @@ module _ (E : List Edge) (rising : Rising E) (r c m x : ℕ) (h : m < length E) 
       go (inl e) = absurd (other (ap (row_at E) e ∙ X.row) (ap (column_at E) e ∙ X.column))
       go (inr (inl l)) = absurd (past (rising m x l X.within))
       go (inr (inr l)) = l
+
+-- the edges that come before a place stand before the others
+module _ (E : List Edge) (rising : Rising E) (r c : ℕ) where
+  earlier : (x y : ℕ) → x < y → y < length E → before (edge_at E y) r c ≡ true → before (edge_at E x) r c ≡ true
+  earlier x y l h b = go (rising x y l h) (or_cases (ltb (row_at E y) r) (eqb (row_at E y) r && ltb (column_at E y) c) b)
+    where
+      less : row_at E x < r → before (edge_at E x) r c ≡ true
+      less k = or_left (ltb (row_at E x) r) (eqb (row_at E x) r && ltb (column_at E x) c) (lt-ltb (row_at E x) r k)
+
+      same : row_at E x ≡ r → column_at E x < c → before (edge_at E x) r c ≡ true
+      same e k = or_right (ltb (row_at E x) r) (eqb (row_at E x) r && ltb (column_at E x) c) (and_from (eqb (row_at E x) r) (ltb (column_at E x) c) (eq-eqb (row_at E x) r e) (lt-ltb (column_at E x) c k))
+
+      go : (row_at E x < row_at E y) ⊎ ((row_at E x ≡ row_at E y) × (column_at E x < column_at E y)) → (ltb (row_at E y) r ≡ true) ⊎ ((eqb (row_at E y) r && ltb (column_at E y) c) ≡ true) → before (edge_at E x) r c ≡ true
+      go (inl k) (inl o) = less (omega (arith, ltb-true (row_at E y) r o))
+      go (inl k) (inr o) = let p = and_parts (eqb (row_at E y) r) (ltb (column_at E y) c) o in less (omega (arith, eqb-true (row_at E y) r p.0))
+      go (inr k) (inl o) = less (omega (arith, k.0, ltb-true (row_at E y) r o))
+      go (inr k) (inr o) = let p = and_parts (eqb (row_at E y) r) (ltb (column_at E y) c) o in same (k.0 ∙ eqb-true (row_at E y) r p.0) (omega (arith, k.1, ltb-true (column_at E y) c p.1))
+
+  any : (i : ℕ) (d : Edge) → i < length E → before (get_or E i d) r c ≡ before (edge_at E i) r c
+  any i d h = ap (λ e. before e r c) (get_or_default E i d _ h)
+
+  pub before_part : IsPartitionedBy (λ e. before e r c) E
+  before_part i j d l h b = go (cases_order i j)
+    where
+      go : (i ≡ j) ⊎ ((i < j) ⊎ (j < i)) → before (get_or E i d) r c ≡ true
+      go (inl e) = ap (λ k. before (get_or E k d) r c) e ∙ b
+      go (inr (inl k)) = any i d (omega arith) ∙ earlier i j k h (sym (any j d h) ∙ b)
+      go (inr (inr k)) = absurd (let z : ⊥ = omega arith in z)
+
+-- where those that come before the place end, it stands
+pub place_found : (E : List Edge) (r c : ℕ) (has : HasAt E r c) → Rising E → (i : ℕ) → IsPartitionPoint (λ e. before e r c ≡ true) (λ e. before e r c ≡ false) E i →
+    (i < length E) × (i ≡ position_of E r c)
+place_found E r c has rising i P = (omega (arith, is, has.1.within), position_is E r c has rising i (subst (StandsAt E r c) (sym is) has.1))
+  where
+    x : ℕ
+    x = has.0
+
+    low : x < i → ⊥
+    low h = let b = P.0 x (record { row = 0; column = 0; coefficient = 0 }) (omega arith) h in
+        let l : x < x = place_after E rising r c x x has.1.within has.1 b in
+        omega arith
+
+    high : i < x → ⊥
+    high h = let b = P.1 i (record { row = 0; column = 0; coefficient = 0 }) (omega arith) (omega (arith, has.1.within)) in
+        let l : x < i = place_before E rising r c i x (omega (arith, has.1.within)) has.1 b (λ e f. other e f) in
+        omega arith
+      where
+        other : row_at E i ≡ r → column_at E i ≡ c → ⊥
+        other e f = let z : i ≡ x = only_place E rising r c i x (record { within = omega (arith, has.1.within); row = e; column = f }) has.1 in omega arith
+
+    is : i ≡ x
+    is = go (cases_order i x)
+      where
+        go : (i ≡ x) ⊎ ((i < x) ⊎ (x < i)) → i ≡ x
+        go (inl e) = e
+        go (inr (inl l)) = absurd (high l)
+        go (inr (inr l)) = absurd (low l)

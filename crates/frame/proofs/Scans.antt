@@ -1,11 +1,14 @@
 -- One more turn of a walk over words, edges or codes. Assumes nothing.
-use Rattle.std.proofs.Common.{◌≡◌, ℕ, zero, suc, pred, ◌+◌, ◌-◌, ◌*◌, ◌<◌, ◌≤◌, min, Bool, true, false, cond, ◌&&◌, ltb, leb, ◌≢◌, ◌⊎◌, List, length, get_or, take, drop, set, sym, refl, ap, ◌∙◌, subst, ap₂, inl, inr, add-one, arith, get_or-set_other, get_or-set_same}
+use Rattle.std.proofs.Common.{◌≡◌, ℕ, zero, suc, pred, ◌+◌, ◌-◌, ◌*◌, ◌<◌, ◌≤◌, min, Bool, true, false, cond, ◌&&◌, ltb, leb, ◌≢◌, ◌⊎◌, List, length, get_or, take, drop, ◌++◌, set, sym, refl, ap, ◌∙◌, subst, ap₂, inl, inr, add-one, arith, get_or-set_other, get_or-set_same}
+use Rattle.std.proofs.Math.Nat.{suc-mul, add-mul}
+use Rattle.std.proofs.Math.Bool.{and_assoc}
 use Rattle.std.proofs.lemmas.Nat.{mul-le}
 use Rattle.std.proofs.lemmas.List.Edits.{length-between}
-use Rattle.std.proofs.lemmas.List.{get_or-take, get_or-drop}
+use Rattle.std.proofs.lemmas.List.{get_or-take, get_or-drop, places}
 use Rattle.std.proofs.lemmas.Bool.{cases_eq, and_from, and_left, and_right}
 use Rattle.tree.specs.Over.{over, count, every, least_to, lowest_to}
 use Rattle.tree.proofs.Words.{lowest_low}
+use Rattle.frame.specs.Blocks.{block}
 use Rattle.frame.specs.Words.{Written}
 
 -- a block that is in range ends in range
@@ -38,28 +41,45 @@ every_step (suc n) f g h = ap₂ ◌&&◌ (h n (omega arith)) (every_step n f g 
 pub every_same : (n m : ℕ) (f g : ℕ → Bool) → n ≡ m → ((x : ℕ) → x < n → f x ≡ g x) → every n f ≡ every m g
 every_same n m f g e h = every_step n f g h ∙ ap (λ k. every k g) e
 
--- what holds of a part's words
-pub part_every : (area : List ℕ) (at q top : ℕ) → at + q ≤ length area →
-    every (length (take (at + q - at) (drop at area))) (λ a. leb (get_or (take (at + q - at) (drop at area)) a 0) top) ≡ every q (λ a. leb (get_or area (at + a) 0) top)
-part_every area at q top h =
-    let z : at + q - at ≡ q = omega arith in
-    let l : length (take (at + q - at) (drop at area)) ≡ q = length-between area at (at + q) h ∙ z in
-    every_same _ q _ _ l (λ a k. ap (λ v. leb v top) (get_or-take (at + q - at) (drop at area) a 0 (omega arith) ∙ get_or-drop at area a 0))
+-- all of n parts of q are all of the n * q
+every_more : (m q : ℕ) (test : ℕ → Bool) → every (m + q) test ≡ (every q (λ a. test (m + a)) && every m test)
+unfolding every
+every_more m zero test = ap (λ k. every k test) (let z : m + 0 ≡ m = omega arith in z)
+every_more m (suc q) test =
+    ap (λ k. every k test) (let z : m + suc q ≡ suc (m + q) = omega arith in z)
+    ∙ ap (λ b. test (m + q) && b) (every_more m q test) ∙ sym (and_assoc (test (m + q)) (every q (λ a. test (m + a))) (every m test))
+
+every_parts : (n q : ℕ) (test : ℕ → Bool) → every (n * q) test ≡ every n (λ c. every q (λ a. test (c * q + a)))
+unfolding every
+every_parts zero q test = ap (λ k. every k test) (let z : 0 * q ≡ 0 = omega arith in z)
+every_parts (suc n) q test =
+    ap (λ k. every k test) (suc-mul n q)
+    ∙ every_more (n * q) q test ∙ ap (λ b. every q (λ a. test (n * q + a)) && b) (every_parts n q test)
+
+-- what holds of the words of the n blocks from s on
+pub blocks_every : (area : List ℕ) (q s n top : ℕ) → (s + n) * q ≤ length area → let part = take ((s + n) * q - s * q) (drop (s * q) area) in
+    every (length part) (λ a. leb (get_or part a 0) top) ≡ every n (λ c. every q (λ a. leb (get_or area ((s + c) * q + a) 0) top))
+blocks_every area q s n top h =
+    let z : (s + n) * q ≡ s * q + n * q = add-mul s n q in
+    let l : length (take ((s + n) * q - s * q) (drop (s * q) area)) ≡ n * q = length-between area (s * q) ((s + n) * q) h ∙ (let w : (s + n) * q - s * q ≡ n * q = omega arith in w) in
+    every_same _ (n * q) _ (λ a. leb (get_or area (s * q + a) 0) top) l (λ a k. ap (λ v. leb v top) (get_or-take ((s + n) * q - s * q) (drop (s * q) area) a 0 (omega arith) ∙ get_or-drop (s * q) area a 0))
+    ∙ every_parts n q (λ a. leb (get_or area (s * q + a) 0) top)
+    ∙ every_same n n _ _ refl (λ c k. every_same q q _ _ refl (λ a l. ap (λ p. leb (get_or area p 0) top) (let w : s * q + (c * q + a) ≡ (s + c) * q + a = omega (arith, add-mul s c q) in w)))
 
 -- ---- the least, and the lowest place of it
-pub least_next : (a : ℕ) (f : ℕ → ℕ) → 1 ≤ a → min (least_to (pred a) f) (f a) ≡ least_to (pred (a + 1)) f
+pub least_next : (a : ℕ) (f : ℕ → ℕ) → min (least_to (pred a) f) (f a) ≡ least_to (pred (a + 1)) f
 unfolding least_to
-least_next a f h =
-    let e : suc (pred a) ≡ pred (a + 1) = omega arith in
-    let z : a ≡ suc (pred a) = omega arith in
-    ap (λ n. min (least_to (pred a) f) (f n)) z ∙ ap (λ n. least_to n f) e
+least_next zero f = let e : min (f 0) (f 0) ≡ f 0 = omega arith in e
+least_next (suc a) f = ap (λ n. least_to n f) (let e : suc a ≡ pred (suc a + 1) = omega arith in e)
 
-pub lowest_next : (a : ℕ) (f : ℕ → ℕ) (best : ℕ) → 1 ≤ a → best ≡ lowest_to (pred a) f → cond (ltb (f a) (f best)) a best ≡ lowest_to (pred (a + 1)) f
+pub lowest_next : (a : ℕ) (f : ℕ → ℕ) (best : ℕ) → best ≡ lowest_to (pred a) f → cond (ltb (f a) (f best)) a best ≡ lowest_to (pred (a + 1)) f
 unfolding lowest_to
-lowest_next a f best h e =
-    let s : suc (pred a) ≡ pred (a + 1) = omega arith in
-    let z : a ≡ suc (pred a) = omega arith in
-    ap₂ (λ n b. cond (ltb (f n) (f b)) n b) z e ∙ ap (λ n. lowest_to n f) s
+lowest_next zero f best e = ap (λ b. cond (ltb (f 0) (f b)) 0 b) e ∙ either (ltb (f 0) (f 0)) 0
+  where
+    either : (b : Bool) (x : ℕ) → cond b x x ≡ x
+    either true x = refl
+    either false x = refl
+lowest_next (suc a) f best e = ap (λ b. cond (ltb (f (suc a)) (f b)) (suc a) b) e ∙ ap (λ n. lowest_to n f) (let s : suc a ≡ pred (suc a + 1) = omega arith in s)
 
 pub nearer_low : (b : Bool) (a best n : ℕ) → a < n → best < n → cond b a best < n
 nearer_low true a best n h k = h
@@ -87,6 +107,11 @@ part_lowest area at q h one =
     let l : length (take (at + q - at) (drop at area)) ≡ q = length-between area at (at + q) h ∙ z in
     lowest_same _ (pred q) _ _ (ap pred l) (λ a k. get_or-take (at + q - at) (drop at area) a 0 (omega arith) ∙ get_or-drop at area a 0)
 
+-- of a block's words
+pub block_lowest : (area v : List ℕ) (q j : ℕ) → v ≡ block q j area → length v ≡ q → 1 ≤ q → lowest_to (pred (length v)) (λ a. get_or v a 0) ≡ lowest_to (pred q) (λ a. get_or area (j * q + a) 0)
+unfolding block
+block_lowest area v q j e l one = lowest_same _ (pred q) _ _ (ap pred l) (λ a k. ap (λ x. get_or x a 0) e ∙ get_or-take q (drop (j * q) area) a 0 (omega arith) ∙ get_or-drop (j * q) area a 0)
+
 -- what holds below i, and is written at i
 pub set_below : (i v : ℕ) (xs : List ℕ) (f : ℕ → ℕ) → i < length xs → ((k : ℕ) → k < i → get_or xs k 0 ≡ f k) → v ≡ f i → (k : ℕ) → k < i + 1 → get_or (set xs i v) k 0 ≡ f k
 set_below i v xs f h below e k l = go (cases_eq k i)
@@ -94,6 +119,22 @@ set_below i v xs f h below e k l = go (cases_eq k i)
     go : (k ≡ i) ⊎ (k ≡ i → ⊥) → get_or (set xs i v) k 0 ≡ f k
     go (inl z) = subst (λ m. get_or (set xs i v) m 0 ≡ f m) (sym z) (rw get_or-set_same e)
     go (inr d) = let ne : k ≢ i = d in rw get_or-set_other (below k (omega arith))
+
+-- words written all at once
+pub written_over : (at n : ℕ) (f : ℕ → ℕ) (before v : List ℕ) → at + n ≤ length before → length v ≡ n → ((a : ℕ) → a < n → get_or v a 0 ≡ f a) →
+    Written at (at + n) f before (take at before ++ (v ++ drop (at + n) before))
+written_over at n f before v h l e = record {
+  there = λ k m. let z : get_or (take at before ++ (v ++ drop (at + n) before)) (at + k) 0 ≡ get_or v k 0 = grind (arith, places) in z ∙ e k (omega arith);
+  kept = kept;
+}
+  where
+    kept : (k : ℕ) → (k < at) ⊎ (at + n ≤ k) → get_or (take at before ++ (v ++ drop (at + n) before)) k 0 ≡ get_or before k 0
+    kept k (inl m) = grind (arith, places)
+    kept k (inr m) = grind (arith, places)
+
+-- what stands from i on, past a write at i
+pub set_past : (i v : ℕ) (xs old : List ℕ) → ((k : ℕ) → i ≤ k → get_or xs k 0 ≡ get_or old k 0) → (k : ℕ) → i + 1 ≤ k → get_or (set xs i v) k 0 ≡ get_or old k 0
+set_past i v xs old past k l = let ne : k ≢ i = omega arith in rw get_or-set_other (past k (omega arith))
 
 -- ---- folds
 pub over_yes : (op : ℕ → ℕ → ℕ) (u n : ℕ) (test : ℕ → Bool) (f : ℕ → ℕ) → test n ≡ true → over op u (n + 1) test f ≡ op (f n) (over op u n test f)
@@ -119,30 +160,3 @@ count_next n test = go (test n) refl
 pub one_low : (b : Bool) → cond b 1 0 ≤ 1
 one_low true = omega arith
 one_low false = omega arith
-
--- ---- words written one after another
-pub written_none : (from : ℕ) (f : ℕ → ℕ) (before : List ℕ) → Written from (from + 0) f before before
-written_none from f before = record { there = λ k h. absurd (let z : ⊥ = omega arith in z); kept = λ k h. refl }
-
-pub written_more : (from n v : ℕ) (f : ℕ → ℕ) (before area : List ℕ) → Written from (from + n) f before area → from + n < length area → v ≡ f n → Written from (from + (n + 1)) f before (set area (from + n) v)
-written_more from n v f before area B h e = record { there = there; kept = kept }
-  where
-    there : (k : ℕ) → from + k < from + (n + 1) → get_or (set area (from + n) v) (from + k) 0 ≡ f k
-    there k l = go (cases_eq k n)
-      where
-        go : (k ≡ n) ⊎ (k ≡ n → ⊥) → get_or (set area (from + n) v) (from + k) 0 ≡ f k
-        go (inl z) = subst (λ m. get_or (set area (from + n) v) (from + m) 0 ≡ f m) (sym z) (rw get_or-set_same e)
-        go (inr d) = let ne : k ≢ n = d in let m : from + k ≢ from + n = omega arith in rw get_or-set_other (B.there k (omega arith))
-
-    kept : (k : ℕ) → (k < from) ⊎ (from + (n + 1) ≤ k) → get_or (set area (from + n) v) k 0 ≡ get_or before k 0
-    kept k (inl l) = let m : k ≢ from + n = omega arith in rw get_or-set_other (B.kept k (inl l))
-    kept k (inr l) = let m : k ≢ from + n = omega arith in rw get_or-set_other (B.kept k (inr (omega arith)))
-
--- from the start
-pub written_at : (n v : ℕ) (f : ℕ → ℕ) (before area : List ℕ) → Written 0 n f before area → n < length area → v ≡ f n → Written 0 (n + 1) f before (set area n v)
-written_at n v f before area B h e =
-    let z : n ≡ 0 + n = omega arith in
-    let w : 0 + (n + 1) ≡ n + 1 = omega arith in
-    subst (λ m. Written 0 m f before (set area n v)) w
-    (subst (λ m. Written 0 (0 + (n + 1)) f before (set area m v)) (sym z)
-    (written_more 0 n v f before area (subst (λ m. Written 0 m f before area) z B) (omega arith) e))

@@ -1,5 +1,6 @@
 -- What a step's copies hold, and that its join is not refused. Assumes nothing.
-use Rattle.std.proofs.Common.{◌≡◌, ℕ, ◌-◌, ◌<◌, ◌≤◌, List, length, take, None, Ok, Err, Option, sym, ap, ◌∙◌, subst, arith}
+use Rattle.std.proofs.Common.{◌≡◌, ℕ, ◌-◌, ◌<◌, ◌≤◌, List, length, take, replicate, None, Ok, Err, Option, sym, ap, ◌∙◌, subst, arith}
+use Rattle.std.proofs.lemmas.List.{length-take-le}
 use native.Mathlib.Nat.{sub-zero}
 use Rattle.joiner.specs.Costs.{Low}
 use Rattle.frame.specs.Blocks.{block, blocks}
@@ -10,6 +11,10 @@ use Rattle.frame.proofs.Vectors.{none_refused}
 
 pub front_is : (q s i : ℕ) (l area : List ℕ) → q ≡ s → take q l ≡ block q i area → take (q - 0) l ≡ block s i area
 front_is q s i l area e h = ap (λ n. take n l) (sub-zero q) ∙ h ∙ ap (λ n. block n i area) e
+
+-- the front of the array that a step writes to
+pub front_long : (q : ℕ) → q ≤ 64 → length (take (q - 0) (replicate {A = ℕ} 64 0)) ≡ q
+front_long q h = ap (λ n. length (take n (replicate {A = ℕ} 64 0))) (sub-zero q) ∙ length-take-le q (replicate {A = ℕ} 64 0) h
 
 pub block_is : (q s i : ℕ) (l area : List ℕ) → q ≡ s → l ≡ block q i area → l ≡ block s i area
 block_is q s i l area e h = h ∙ ap (λ n. block n i area) e

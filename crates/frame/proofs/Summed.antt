@@ -1,9 +1,12 @@
 -- Blocks added to the blocks of their columns. Assumes nothing.
-use Rattle.std.proofs.Common.{◌≡◌, ℕ, zero, suc, pred, ◌+◌, ◌-◌, ◌*◌, ◌<◌, ◌≤◌, min, Bool, true, false, cond, eqb, ◌⊎◌, List, length, get_or, refl, ap, ◌∙◌, subst, inl, inr, add-one, arith}
+use Rattle.std.proofs.Common.{◌≡◌, ℕ, zero, suc, pred, ◌+◌, ◌-◌, ◌*◌, ◌<◌, ◌≤◌, min, Bool, true, false, cond, eqb, ◌⊎◌, List, length, get_or, refl, ap, ap₂, ◌∙◌, subst, inl, inr, add-one, arith}
 use Rattle.std.proofs.lemmas.Bool.{cases_eq, eq-eqb, ne_eqb, cond_both}
 use Rattle.tree.specs.Over.{over, total, count, least_to}
 use Rattle.joiner.specs.Costs.{Low}
 use Rattle.frame.specs.Blocks.{block, blocks, put, Wrote}
+use Rattle.tree.specs.Rows.{tabled}
+use Rattle.tree.proofs.Rows.{tabled_same}
+use Rattle.frame.specs.Words.{store_at}
 use Rattle.frame.specs.Columns.{word, entry_at, edge_of, added, rests, lowered, SummedTo}
 use Rattle.code.specs.declared.table.Edge.{Edge}
 use Rattle.code.specs.declared.table.Entry.{Entry}
@@ -22,12 +25,18 @@ pub length_lowered : (q top : ℕ) (v w : List ℕ) → length (lowered q top v 
 unfolding lowered
 length_lowered q top v w = length_tabled q (λ a. min (rests v w a - least_to (pred q) (rests v w)) top)
 
-pub least_more : (a : ℕ) (f : ℕ → ℕ) → 1 ≤ a → min (least_to (pred a) f) (f a) ≡ least_to (pred (a + 1)) f
+pub least_same : (n : ℕ) (f g : ℕ → ℕ) → ((b : ℕ) → b ≤ n → f b ≡ g b) → least_to n f ≡ least_to n g
 unfolding least_to
-least_more a f h =
-    let e : suc (pred a) ≡ pred (a + 1) = omega arith in
-    let z : a ≡ suc (pred a) = omega arith in
-    ap (λ n. min (least_to (pred a) f) (f n)) z ∙ ap (λ n. least_to n f) e
+least_same zero f g h = h 0 (omega arith)
+least_same (suc n) f g h = ap₂ min (least_same n f g (λ b l. h b (omega arith))) (h (suc n) (omega arith))
+
+-- what is left of v without w, less the least and lowered
+pub lowered_from : (n top : ℕ) (v w out : List ℕ) → 1 ≤ n → length out ≡ n → ((a : ℕ) → a < n → get_or out a 0 ≡ rests v w a) → tabled (length out) (store_at out top) ≡ lowered n top v w
+unfolding lowered
+lowered_from n top v w out one l e =
+    ap (λ k. tabled k (store_at out top)) l
+    ∙ tabled_same n (store_at out top) (λ a. min (rests v w a - least_to (pred n) (rests v w)) top)
+    (λ a h. ap₂ (λ x y. min (x - y) top) (e a h) (ap (λ k. least_to (pred k) (λ b. get_or out b 0)) l ∙ least_same (pred n) _ (rests v w) (λ b k. e b (omega arith))))
 
 -- ---- totals
 pub total_yes : (n : ℕ) (test : ℕ → Bool) (f : ℕ → ℕ) → test n ≡ true → total (n + 1) test f ≡ f n + total n test f

@@ -1,13 +1,14 @@
 -- One turn of each loop over a row's vectors. Assumes nothing.
-use Rattle.std.proofs.Common.{◌≡◌, ℕ, zero, suc, ◌+◌, ◌-◌, ◌*◌, ◌/◌, ◌<◌, ◌≤◌, cond, eqb, ◌≢◌, ◌⊎◌, List, length, sym, refl, ap, ◌∙◌, subst, ap₂, inl, inr, add-one, arith}
+use Rattle.std.proofs.Common.{◌≡◌, ℕ, zero, suc, ◌+◌, ◌-◌, ◌*◌, ◌/◌, ◌<◌, ◌≤◌, cond, eqb, ◌≢◌, ◌⊎◌, List, ◌++◌, length, take, drop, sym, refl, ap, ◌∙◌, subst, ap₂, inl, inr, add-one, arith}
 use Rattle.std.proofs.lemmas.Bool.{cases_lt, eq-eqb, ne_eqb, cond_both}
-use Rattle.std.proofs.lemmas.Nat.{mul-le}
+use Rattle.std.proofs.Math.Nat.{suc-mul, add-mul}
+use Rattle.std.proofs.lemmas.Nat.{mul-le, div-add-mod'}
 use Rattle.field.specs.Tables.{Tables, Lawful}
 use Rattle.tree.specs.Rows.{gathered, forth, back, forth_pairs, back_pairs, around_at, around_pair, around_pairs}
 use Rattle.joiner.specs.Costs.{Low}
 use Rattle.frame.specs.Blocks.{block, blocks, put, Wrote, Filled}
 use Rattle.frame.specs.Joins.{turned, stepped}
-use Rattle.frame.proofs.Written.{room, block_put_same, block_put_other}
+use Rattle.frame.proofs.Written.{room, block_put_same, block_put_other, copied_there, copied_under, copied_over}
 use Rattle.tree.specs.Rows.{joined}
 use Rattle.frame.proofs.Joined.{length_joined, low_joined}
 use Rattle.frame.proofs.Vectors.{length_gathered}
@@ -34,6 +35,27 @@ wrote_again q k v w a b c A B = record { here = B.here; other = λ j ne. B.other
 
 pub same_blocks : (q : ℕ) (before after : List ℕ) → length after ≡ length before → (n : ℕ) → n ≤ blocks q before → n ≤ blocks q after
 same_blocks q before after e n h = subst (λ x. n ≤ x / q) (sym e) h
+
+pub front_fits : (q n size : ℕ) → n + n ≤ size / q → n * q + n * q ≤ size
+front_fits q n size h = omega (arith, add-mul n n q, mul-le (n + n) q (size / q) q h (omega arith), div-add-mod' size q)
+
+-- the first n blocks, copied to the n after them
+pub filled_front : (q n : ℕ) (area after : List ℕ) → n + n ≤ blocks q area → after ≡ take (n * q) area ++ (take (n * q) area ++ drop (n * q + n * q) area) →
+    Filled q n n (λ c. block q c area) area after
+unfolding block
+filled_front q n area after h e = record { there = there; kept = kept }
+  where
+    fits : n * q + n * q ≤ length area
+    fits = front_fits q n (length area) h
+
+    there : (x : ℕ) → x < n → take q (drop ((n + x) * q) after) ≡ take q (drop (x * q) area)
+    there x l =
+        ap (λ a. take q (drop ((n + x) * q) a)) e ∙ ap (λ p. take q (drop p (take (n * q) area ++ (take (n * q) area ++ drop (n * q + n * q) area)))) (add-mul n x q)
+        ∙ copied_there (x * q) (n * q) q area fits (omega (arith, suc-mul x q, mul-le (suc x) q n q l (omega arith)))
+
+    kept : (j : ℕ) → (j < n) ⊎ (n + n ≤ j) → take q (drop (j * q) after) ≡ take q (drop (j * q) area)
+    kept j (inl l) = ap (λ a. take q (drop (j * q) a)) e ∙ copied_under (j * q) (n * q) q area fits (omega (arith, suc-mul j q, mul-le (suc j) q n q l (omega arith)))
+    kept j (inr l) = ap (λ a. take q (drop (j * q) a)) e ∙ copied_over (j * q) (n * q) q area fits (omega (arith, add-mul n n q, mul-le (n + n) q j q l (omega arith)))
 
 module _ (q s : ℕ) (f : ℕ → List ℕ) (before : List ℕ) where
   pub filled_none : Filled q s 0 f before before

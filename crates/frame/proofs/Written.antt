@@ -1,8 +1,10 @@
 -- One block written, and the others as they were. Assumes nothing.
-use Rattle.std.proofs.Common.{◌≡◌, ℕ, suc, ◌+◌, ◌*◌, ◌/◌, ◌<◌, ◌≤◌, ◌≢◌, ◌⊎◌, List, ◌++◌, length, take, drop, sym, subst, inl, inr, arith, length-drop, rules}
-use Rattle.std.proofs.lemmas.List.{places, same_lists, length-take-le}
+use Rattle.std.proofs.Common.{◌≡◌, ℕ, suc, ◌+◌, ◌-◌, ◌*◌, ◌/◌, ◌<◌, ◌≤◌, ◌≢◌, ◌⊎◌, List, ◌++◌, length, take, drop, sym, ap, ◌∙◌, subst, inl, inr, arith, length-drop, rules}
+use Rattle.std.proofs.lemmas.List.{places, same_lists, length-take-le, append_assoc}
 use Rattle.std.proofs.lemmas.Nat.{mul-le, div-add-mod'}
 use Rattle.std.proofs.lemmas.Bool.{cases_order}
+use Rattle.std.specs.List.{copy_within}
+use native.Mathlib.Nat.{sub-zero}
 use Rattle.frame.specs.Blocks.{block, put}
 
 pub room : (q j n : ℕ) → j < n / q → j * q + q ≤ n
@@ -35,6 +37,34 @@ module _ (q j : ℕ) (v area : List ℕ) (long : length v ≡ q) (fits : j * q +
       go (inl e) = absurd (ne e)
       go (inr (inl h)) = before (i * q) (j * q) q v area (omega (arith, mul-le (suc i) q j q h (omega arith))) fits long
       go (inr (inr h)) = past (i * q) (j * q) q v area (omega (arith, mul-le (suc j) q i q h (omega arith))) fits long
+
+-- a block as a part that is lent, and the area with it written back
+pub part_is : (q j : ℕ) (area : List ℕ) → take (j * q + q - j * q) (drop (j * q) area) ≡ block q j area
+unfolding block
+part_is q j area = ap (λ n. take n (drop (j * q) area)) (let z : j * q + q - j * q ≡ q = omega arith in z)
+
+-- ---- blocks copied
+pub block_copied : (q i j : ℕ) (area : List ℕ) → copy_within area (i * q) (i * q + q) (j * q) ≡ put q j (block q i area) area
+unfolding put block
+block_copied q i j area =
+    append_assoc (take (j * q) area) (take (i * q + q - i * q) (drop (i * q) area)) (drop (j * q + (i * q + q - i * q)) area)
+    ∙ ap (λ n. take (j * q) area ++ (take n (drop (i * q) area) ++ drop (j * q + n) area)) (let z : i * q + q - i * q ≡ q = omega arith in z)
+
+-- the first k words, copied to the k after them
+pub front_copied : (k : ℕ) (area : List ℕ) → copy_within area 0 k k ≡ take k area ++ (take k area ++ drop (k + k) area)
+front_copied k area =
+    append_assoc (take k area) (take (k - 0) area) (drop (k + (k - 0)) area)
+    ∙ ap (λ n. take k area ++ (take n area ++ drop (k + n) area)) (sub-zero k)
+
+module _ (a k q : ℕ) (area : List ℕ) (fits : k + k ≤ length area) where
+  pub copied_there : a + q ≤ k → take q (drop (k + a) (take k area ++ (take k area ++ drop (k + k) area))) ≡ take q (drop a area)
+  copied_there h = same_lists _ _ (search (rules, places)) (λ x d l. grind (arith, places))
+
+  pub copied_under : a + q ≤ k → take q (drop a (take k area ++ (take k area ++ drop (k + k) area))) ≡ take q (drop a area)
+  copied_under h = same_lists _ _ (search (rules, places)) (λ x d l. grind (arith, places))
+
+  pub copied_over : k + k ≤ a → take q (drop a (take k area ++ (take k area ++ drop (k + k) area))) ≡ take q (drop a area)
+  copied_over h = same_lists _ _ (search (rules, places)) (λ x d l. grind (arith, places))
 
 pub length_block : (q j : ℕ) (area : List ℕ) → j * q + q ≤ length area → length (block q j area) ≡ q
 unfolding block

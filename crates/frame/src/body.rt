@@ -4,7 +4,7 @@ ghost use Rattle.tree.specs.Frame.{parts_of};
 ghost use Rattle.frame.specs.Round.{code_of, Ready, Moved};
 
 use crate::costs::{begin, costs, settle};
-use crate::rows::rows;
+use crate::step::Joins;
 use crate::sums::sums;
 use code::table::{Edge, Entry, Header};
 use field::Field;
@@ -29,17 +29,12 @@ pub fn body<F: Field, J: Joiner>(
     let n = header.columns as usize;
     let to = n + n;
     let from = to + edges.len();
-    let pairs = rows(
+    let joins = Joins {
         field,
         joiner,
-        header.ceiling,
-        edges,
-        area,
-        to,
-        from,
-        from + edges.len(),
-        header.rows,
-    );
+        ceiling: header.ceiling,
+    };
+    let pairs = joins.rows(edges, area, to, from, from + edges.len(), header.rows);
     begin(area, q, n);
     sums(edges, entries, header.ceiling, area, q, n, from, n);
     costs(edges, header.ceiling, area, q, n, to, from, n);

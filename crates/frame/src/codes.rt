@@ -9,10 +9,7 @@ pub fn times<F: Field>(field: &F, a: u8, b: u8) -> u8
     ensures is { result ≡ (F.Field.meaning field.now).product a b }
     ensures code { result < (F.Field.meaning field.now).order }
 {
-    match field.product(a, b) {
-        Some(c) => c,
-        None => unreachable(),
-    }
+    field.product(a, b).unwrap()
 }
 
 // The opposite of a code.
@@ -21,10 +18,7 @@ pub fn negated<F: Field>(field: &F, a: u8) -> u8
     ensures is { result ≡ minus (F.Field.meaning field.now) a }
     ensures code { result < (F.Field.meaning field.now).order }
 {
-    match field.opposite(a) {
-        Some(c) => c,
-        None => unreachable(),
-    }
+    field.opposite(a).unwrap()
 }
 
 // The inverse of a code that is not 0.
@@ -33,10 +27,7 @@ pub fn inverted<F: Field>(field: &F, a: u8) -> u8
     ensures is { result ≡ over_one (F.Field.meaning field.now) a }
     ensures code { result < (F.Field.meaning field.now).order }
 {
-    match field.inverse(a) {
-        Some(c) => c,
-        None => unreachable(),
-    }
+    field.inverse(a).unwrap()
 }
 
 // The sum of two codes.
@@ -45,8 +36,5 @@ pub fn plus<F: Field>(field: &F, a: u8, b: u8) -> u8
     ensures is { result ≡ (F.Field.meaning field.now).sum a b }
     ensures code { result < (F.Field.meaning field.now).order }
 {
-    match field.sum(a, b) {
-        Some(c) => c,
-        None => unreachable(),
-    }
+    field.sum(a, b).unwrap()
 }

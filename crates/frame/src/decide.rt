@@ -3,6 +3,7 @@ ghost use Rattle.tree.specs.Over.{lowest_to};
 ghost use Rattle.tree.specs.Rows.{tabled};
 ghost use Rattle.frame.specs.Words.{symbol_at};
 
+use crate::blocks::block_at;
 use cost::nearer;
 
 // The lowest code of least distance.
@@ -12,8 +13,8 @@ pub fn lowest(distances: &[u16]) -> u8
     ensures code { result < length distances.now }
 {
     let mut best = 0;
-    for a in 1..distances.len() {
-        best = nearer(best, distances[best], a, distances[a]);
+    for (a, distance) in distances.iter().enumerate() {
+        best = nearer(best, distances[best], a, *distance);
     }
     best as u8
 }
@@ -25,7 +26,6 @@ pub fn decide(area: &[u16], q: usize, n: usize, word: &mut [u8])
     ensures { word.new ≡ tabled n (symbol_at q n area.now) }
 {
     for c in 0..n {
-        let at = (n + c) * q;
-        word[c] = lowest(&area[at..at + q]);
+        word[c] = lowest(block_at(area, q, n + c));
     }
 }

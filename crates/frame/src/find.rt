@@ -7,29 +7,15 @@ use code::table::Edge;
 fn comes_before(edge: Edge, row: u16, column: u16) -> bool
     ensures { result ≡ before edge row column }
 {
-    edge.row < row || edge.row == row && edge.column < column
+    (edge.row, edge.column) < (row, column)
 }
 
-// The position of the edge that stands at a row and a column, found by halving.
+// The position of the edge that stands at a row and a column: as many edges come before it.
 pub fn edge_at(edges: &[Edge], row: u16, column: u16) -> usize
     requires rising { Rising edges.now }
     requires there { HasAt edges.now row column }
     ensures answer { result ≡ position_of edges.now row column }
     ensures within { result < length edges.now }
 {
-    let mut low = 0;
-    let mut high = edges.len();
-    while low < high {
-        let middle = low + (high - low) / 2;
-        let edge = edges[middle];
-        if edge.row == row && edge.column == column {
-            return middle;
-        }
-        if comes_before(edge, row, column) {
-            low = middle + 1;
-        } else {
-            high = middle;
-        }
-    }
-    unreachable()
+    edges.partition_point(|edge| comes_before(*edge, row, column))
 }

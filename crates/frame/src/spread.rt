@@ -13,8 +13,8 @@ pub fn spread<F: Field>(field: &F, edges: &[Edge], area: &mut [u16], to: usize, 
     requires coefficients { (i : ℕ) → i < length edges.now → (0 < coefficient_at edges.now i) × (coefficient_at edges.now i < (F.Field.meaning field.now).order) }
     ensures { Filled (F.Field.meaning field.now).order s (length edges.now) (row_vectors (F.Field.meaning field.now) (coefficient_at edges.now) to area.old) area.old area.new }
 {
-    for i in 0..edges.len() {
-        let k = inverted(field, edges[i].coefficient);
+    for (i, edge) in edges.iter().enumerate() {
+        let k = inverted(field, edge.coefficient);
         turn(field, k, area, to + i, s + i);
     }
 }

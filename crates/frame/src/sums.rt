@@ -4,32 +4,19 @@ ghost use Rattle.frame.specs.Blocks.{block, blocks, put, Filled};
 ghost use Rattle.joiner.specs.Costs.{Low};
 ghost use Rattle.frame.specs.Columns.{added, word, entry_at, Rising, HasAt, SummedTo};
 
-use crate::blocks::{block_at, put_back};
+use crate::blocks::copied;
 use crate::find::edge_at;
 use code::table::{Edge, Entry};
 
-// Writes the sum of v and w.
-fn add(v: &[u16], w: &[u16], out: &mut [u16])
-    requires long { (length v.now ≡ length out.old) × (length w.now ≡ length out.old) }
-    requires fits { (a : ℕ) → a < length out.old → slice_index v.now a + slice_index w.now a < 65536 }
-    ensures { out.new ≡ added (length out.old) v.now w.now }
+// Adds each number of v to that of `sums`.
+fn add(sums: &mut [u16], v: &[u16])
+    requires long { length v.now ≡ length sums.old }
+    requires fits { (a : ℕ) → a < length sums.old → slice_index sums.old a + slice_index v.now a < 65536 }
+    ensures { sums.new ≡ added (length sums.old) sums.old v.now }
 {
-    for a in 0..out.len() {
-        out[a] = v[a] + w[a];
+    for (a, x) in v.iter().enumerate() {
+        sums[a] += *x;
     }
-}
-
-// Adds block i to block j, by way of `out`.
-fn add_block_by(area: &mut [u16], q: usize, i: usize, j: usize, out: &mut [u16])
-    requires q { q ≤ 64 }
-    requires i { i < blocks q area.old }
-    requires j { j < blocks q area.old }
-    requires fits { (a : ℕ) → a < q → word q area.old j a + word q area.old i a < 65536 }
-    requires out { length out.old ≡ q }
-    ensures { area.new ≡ put q j (added q (block q j area.old) (block q i area.old)) area.old }
-{
-    add(block_at(area, q, j), block_at(area, q, i), out);
-    put_back(area, q, j, out);
 }
 
 // Adds block i to block j.
@@ -40,8 +27,8 @@ fn add_block(area: &mut [u16], q: usize, i: usize, j: usize)
     requires fits { (a : ℕ) → a < q → word q area.old j a + word q area.old i a < 65536 }
     ensures { area.new ≡ put q j (added q (block q j area.old) (block q i area.old)) area.old }
 {
-    let mut out = [0u16; 64];
-    add_block_by(area, q, i, j, &mut out[0..q]);
+    let v = copied(area, q, i);
+    add(&mut area[j * q..j * q + q], &v[0..q]);
 }
 
 // Adds the block of each entry's edge to the block of its column.
@@ -63,8 +50,7 @@ pub fn sums(
     requires low { (((c : ℕ) → c < n → Low ceiling (block q (columns + c) area.old))) × (((x : ℕ) → x < length edges.now → Low ceiling (block q (from + x) area.old))) }
     ensures { SummedTo q columns n from (length entries.now) edges.now entries.now area.old area.new }
 {
-    for k in 0..entries.len() {
-        let entry = entries[k];
+    for entry in entries {
         let e = edge_at(edges, entry.row, entry.column);
         add_block(area, q, from + e, columns + entry.column as usize);
     }

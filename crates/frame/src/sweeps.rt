@@ -3,63 +3,41 @@ ghost use Rattle.frame.specs.Blocks.{block, blocks, «from_on», Filled};
 ghost use Rattle.joiner.specs.Costs.{Low};
 ghost use Rattle.tree.specs.Rows.{back, forth, back_pairs, forth_pairs};
 
-use crate::step::step;
+use crate::step::Joins;
 use field::Field;
 use joiner::Joiner;
 
-// Joins the vectors in the blocks from s on, from the last one down to the second, into the blocks from s + 16 on.
-pub fn backward<F: Field, J: Joiner>(
-    field: &F,
-    joiner: &J,
-    ceiling: u16,
-    area: &mut [u16],
-    s: usize,
-    last: usize,
-) -> u32
-    requires ceiling { (1 ≤ ceiling) × (ceiling ≤ 1023) }
-    requires room { (s + 36 ≤ blocks (F.Field.meaning field.now).order area.old) × (s ≤ 4096) }
-    requires last { (1 ≤ last) × (last < 16) }
-    requires begun { block (F.Field.meaning field.now).order (s + 16) area.old ≡ block (F.Field.meaning field.now).order (s + last) area.old }
-    requires low { (i : ℕ) → i ≤ last → Low ceiling (block (F.Field.meaning field.now).order (s + i) area.old) }
-    ensures pairs { result ≡ back_pairs (J.Joiner.pairs joiner.now) (F.Field.meaning field.now) ceiling («from_on» (F.Field.meaning field.now).order s area.old) last (last - 1) }
-    ensures few { result ≤ 65536 }
-    ensures area { Filled (F.Field.meaning field.now).order (s + 16) last (back (F.Field.meaning field.now) («from_on» (F.Field.meaning field.now).order s area.old) last) area.old area.new }
-{
-    let mut pairs = 0;
-    for m in 0..last - 1 {
-        pairs += step(
-            field,
-            joiner,
-            ceiling,
-            area,
-            s + last - 1 - m,
-            s + 16 + m,
-            s + 17 + m,
-        );
+impl<'a, F: Field, J: Joiner> Joins<'a, F, J> {
+    // Joins the vectors in the blocks from s on, from the last one down to the second, into the blocks from s + 16 on.
+    pub fn backward(&self, area: &mut [u16], s: usize, last: usize) -> u32
+        requires room { (s + 36 ≤ blocks (F.Field.meaning self.now.field.now).order area.old) × (s ≤ 4096) }
+        requires last { (1 ≤ last) × (last < 16) }
+        requires begun { block (F.Field.meaning self.now.field.now).order (s + 16) area.old ≡ block (F.Field.meaning self.now.field.now).order (s + last) area.old }
+        requires low { (i : ℕ) → i ≤ last → Low self.now.ceiling (block (F.Field.meaning self.now.field.now).order (s + i) area.old) }
+        ensures pairs { result ≡ back_pairs (J.Joiner.pairs self.now.joiner.now) (F.Field.meaning self.now.field.now) self.now.ceiling («from_on» (F.Field.meaning self.now.field.now).order s area.old) last (last - 1) }
+        ensures few { result ≤ 65536 }
+        ensures area { Filled (F.Field.meaning self.now.field.now).order (s + 16) last (back (F.Field.meaning self.now.field.now) («from_on» (F.Field.meaning self.now.field.now).order s area.old) last) area.old area.new }
+    {
+        let mut pairs = 0;
+        for m in 0..last - 1 {
+            pairs += self.step(area, s + last - 1 - m, s + 16 + m, s + 17 + m);
+        }
+        pairs
     }
-    pairs
-}
 
-// Joins the vectors in the blocks from s on, from the first one up to the last but one, in their place.
-pub fn forward<F: Field, J: Joiner>(
-    field: &F,
-    joiner: &J,
-    ceiling: u16,
-    area: &mut [u16],
-    s: usize,
-    last: usize,
-) -> u32
-    requires ceiling { (1 ≤ ceiling) × (ceiling ≤ 1023) }
-    requires room { (s + 36 ≤ blocks (F.Field.meaning field.now).order area.old) × (s ≤ 4096) }
-    requires last { (1 ≤ last) × (last < 16) }
-    requires low { (i : ℕ) → i ≤ last → Low ceiling (block (F.Field.meaning field.now).order (s + i) area.old) }
-    ensures pairs { result ≡ forth_pairs (J.Joiner.pairs joiner.now) (F.Field.meaning field.now) ceiling («from_on» (F.Field.meaning field.now).order s area.old) (last - 1) }
-    ensures few { result ≤ 65536 }
-    ensures area { Filled (F.Field.meaning field.now).order s last (forth (F.Field.meaning field.now) («from_on» (F.Field.meaning field.now).order s area.old)) area.old area.new }
-{
-    let mut pairs = 0;
-    for i in 0..last - 1 {
-        pairs += step(field, joiner, ceiling, area, s + i, s + i + 1, s + i + 1);
+    // Joins the vectors in the blocks from s on, from the first one up to the last but one, in their place.
+    pub fn forward(&self, area: &mut [u16], s: usize, last: usize) -> u32
+        requires room { (s + 36 ≤ blocks (F.Field.meaning self.now.field.now).order area.old) × (s ≤ 4096) }
+        requires last { (1 ≤ last) × (last < 16) }
+        requires low { (i : ℕ) → i ≤ last → Low self.now.ceiling (block (F.Field.meaning self.now.field.now).order (s + i) area.old) }
+        ensures pairs { result ≡ forth_pairs (J.Joiner.pairs self.now.joiner.now) (F.Field.meaning self.now.field.now) self.now.ceiling («from_on» (F.Field.meaning self.now.field.now).order s area.old) (last - 1) }
+        ensures few { result ≤ 65536 }
+        ensures area { Filled (F.Field.meaning self.now.field.now).order s last (forth (F.Field.meaning self.now.field.now) («from_on» (F.Field.meaning self.now.field.now).order s area.old)) area.old area.new }
+    {
+        let mut pairs = 0;
+        for i in 0..last - 1 {
+            pairs += self.step(area, s + i, s + i + 1, s + i + 1);
+        }
+        pairs
     }
-    pairs
 }

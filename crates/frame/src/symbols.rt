@@ -9,8 +9,8 @@ use code::code::Code;
 use due::none_fails;
 use field::Field;
 
-// How many rows fail with the decided symbols, by way of `word`.
-fn failing_by<F: Field>(field: &F, code: &Code, area: &[u16], word: &mut [u8]) -> u16
+// Writes the decided symbols, and tells how many rows fail with them.
+fn failing_with<F: Field>(field: &F, code: &Code, area: &[u16], word: &mut [u8]) -> u16
     requires order { (F.Field.meaning field.now).order ≡ (view code.now).header.order }
     requires room { (area_words (view code.now) ≤ length area.now) × (length word.old ≡ (view code.now).header.columns) }
     ensures answer { result ≡ failing_rows (F.Field.meaning field.now) (view code.now) (decided (view code.now) (parts_of (view code.now) area.now)) }
@@ -29,27 +29,7 @@ pub fn failing_rows<F: Field>(field: &F, code: &Code, area: &[u16]) -> u16
 {
     let mut word = [0u8; 256];
     let n = code.header().columns as usize;
-    failing_by(field, code, area, &mut word[0..n])
-}
-
-// Writes the decided symbols and says so, if no row fails with them.
-fn decided_by<F: Field>(
-    field: &F,
-    code: &Code,
-    area: &[u16],
-    found: &mut [u8],
-    word: &mut [u8],
-) -> bool
-    requires order { (F.Field.meaning field.now).order ≡ (view code.now).header.order }
-    requires room { (area_words (view code.now) ≤ length area.now) × ((length found.old ≡ (view code.now).header.columns) × (length word.old ≡ (view code.now).header.columns)) }
-    ensures answer { result ≡ (failing_rows (F.Field.meaning field.now) (view code.now) (decided (view code.now) (parts_of (view code.now) area.now)) == 0) }
-    ensures word { word.new ≡ (if result then word_of (view code.now) (parts_of (view code.now) area.now) else word.old) }
-{
-    if !none_fails(failing_by(field, code, area, found)) {
-        return false;
-    }
-    word.copy_from_slice(found);
-    true
+    failing_with(field, code, area, &mut word[0..n])
 }
 
 // Writes the decided symbols and says so, if no row fails with them.
@@ -61,5 +41,10 @@ pub fn decided_word<F: Field>(field: &F, code: &Code, area: &[u16], word: &mut [
 {
     let mut found = [0u8; 256];
     let n = code.header().columns as usize;
-    decided_by(field, code, area, &mut found[0..n], word)
+    let found = &mut found[0..n];
+    if !none_fails(failing_with(field, code, area, found)) {
+        return false;
+    }
+    word.copy_from_slice(found);
+    true
 }

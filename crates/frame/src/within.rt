@@ -19,11 +19,5 @@ pub fn blocks_within(area: &[u16], q: usize, s: usize, n: usize, ceiling: u16) -
     requires room { (s + n) * q ≤ length area.now }
     ensures { result ≡ low_blocks q s n ceiling area.now }
 {
-    for c in 0..n {
-        let at = (s + c) * q;
-        if !vector_within(&area[at..at + q], ceiling) {
-            return false;
-        }
-    }
-    true
+    vector_within(&area[s * q..(s + n) * q], ceiling)
 }

@@ -8,7 +8,7 @@ use Rattle.tree.proofs.Columns.{entry_edge, column_total}
 use Rattle.frame.specs.Blocks.{block, blocks}
 use Rattle.frame.specs.Round.{code_of}
 use Rattle.frame.proofs.Turns.{same_blocks}
-use Rattle.frame.proofs.Bodies.{A, room_blocks, low_costs, wide, same_pairs, low_begun, low_two, below_three, moved}
+use Rattle.frame.proofs.Bodies.{A, room_blocks, low_costs, wide, same_pairs, low_begun, low_two, moved}
 use Rattle.frame.proofs.body.body.Goals as goal
 
 pub rows-pairs-requires : goal.rows-pairs-requires
@@ -19,7 +19,7 @@ rows-pairs-requires g c =
     let f = A F L K o a0 R in let b = room_blocks F L K o a0 R in
     let N = c.args.header.columns in let W = length c.args.edges.now in
     record {
-      ceiling = (f.ceiling_low, (f.ceiling_high, f.rows_high));
+      count = f.rows_high;
       room = (subst (λ q. N + N + W + W + 36 ≤ blocks q a0) (sym o) b, (omega (arith, f.columns_high, f.width_high), (omega arith, omega arith)));
       rising = rows_rise K f;
       rows = f.row_below;
@@ -73,7 +73,6 @@ costs-requires g c =
       q = (omega (arith, f.order_low), f.order_high);
       room = (omega arith, (omega arith, (z, (omega (arith, f.columns_high, f.width_high), f.width_high))));
       edges = f.column_below;
-      below = below_three F L K o a0 R a1 S1 a2 S2 a3 S3;
     }
 
 pub settle-requires : goal.settle-requires

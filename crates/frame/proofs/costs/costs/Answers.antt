@@ -1,4 +1,4 @@
-use Rattle.std.proofs.Common.{◌+◌, ◌≤◌, length, get_or, refl, ap, ap₂, inl, inr, arith}
+use Rattle.std.proofs.Common.{◌+◌, ◌≤◌, length, refl, ap₂, inl, inr, arith}
 use Rattle.frame.specs.Blocks.{blocks}
 use Rattle.frame.specs.Columns.{column_at, lowered}
 use Rattle.frame.proofs.Turns.{same_blocks, wrote, filled_none, filled_more}
@@ -21,7 +21,6 @@ lower_block-requires c =
       i = omega arith;
       j = omega arith;
       k = omega arith;
-      below = λ a l. let b = c.requires.below e a (omega arith) l in omega (arith, ap (λ z. get_or z a 0) v, ap (λ z. get_or z a 0) w);
     }
 
 pub loop-e-preserved : goal.loop-e-preserved

@@ -1,6 +1,6 @@
-use Rattle.std.proofs.Common.{◌≡◌, ℕ, ◌-◌, ◌<◌, min, get_or}
+use Rattle.std.proofs.Common.{◌≡◌, ℕ, ◌<◌, get_or}
 use Rattle.frame.specs.Columns.{rests}
 use Rattle.frame.proofs.costs.lower.Given as goal
 
 abbrev pub invariant-loop-a : goal.invariant-loop-a
-invariant-loop-a l = (x : ℕ) → x < l.a → get_or l.out x 0 ≡ min (rests l.v l.w x - l.m) l.ceiling
+invariant-loop-a l = (x : ℕ) → x < l.a → get_or l.out x 0 ≡ rests l.v l.w x

@@ -1,13 +1,13 @@
-use Rattle.std.proofs.Common.{min, get_or, refl, ap, ◌∙◌, arith}
+use Rattle.std.proofs.Common.{min, get_or, refl, ap, ◌∙◌}
 use Rattle.tree.specs.Over.{least_to}
 use Rattle.frame.proofs.Scans.{least_next}
 use Rattle.frame.proofs.words.least.Goals as goal
 
-pub loop-a-init : goal.loop-a-init
+pub loop-value-init : goal.loop-value-init
 unfolding least_to
-loop-a-init c = refl
+loop-value-init c = refl
 
-pub loop-a-preserved : goal.loop-a-preserved
-loop-a-preserved c =
+pub loop-value-preserved : goal.loop-value-preserved
+loop-value-preserved c =
     let v = c.args.values.now in
-    c.lesser-m.ensures ∙ ap (λ n. min n (get_or v c.loop-a.a 0)) c.loop-a.invariant ∙ least_next c.loop-a.a (λ a. get_or v a 0) (omega arith)
+    c.lesser-m.ensures ∙ ap (λ n. min n (get_or v c.loop-value.value-index 0)) c.loop-value.invariant ∙ least_next c.loop-value.value-index (λ a. get_or v a 0)
