@@ -1,7 +1,7 @@
-// What the calls on a frame ask of the field, the slip and what is lent, one test each.
+// What the calls on a frame want of the field, the slip and what is lent, one test each.
 #![tactic(auto)]
 
-ghost use Rattle.std.specs.Prelude.{◌≡◌, suc, ◌+◌, ◌*◌, min, length, ◌==◌, nat_le, nat_lt};
+ghost use Rattle.std.specs.Prelude.{◌≡◌, suc, ◌+◌, ◌*◌, min, length, ◌==◌, nat_le, nat_lt, if◌then◌else◌};
 ghost use Rattle.code.specs.Views.{view};
 ghost use Rattle.tree.specs.Frame.{numbers_of, same_numbers, area_words};
 ghost use Rattle.due.specs.Numbers.{numbers_in};
@@ -40,13 +40,6 @@ pub fn numbers_of(code: &Code) -> Numbers
     }
 }
 
-// Whether the field has the code's order.
-pub fn has_order<F: Field>(field: &F, code: &Code) -> bool
-    ensures { result ≡ ((F.Field.meaning field.now).order == (view code.now).header.order) }
-{
-    u16::from(field.order()) == code.header().order
-}
-
 fn same(a: Numbers, b: Numbers) -> bool
     ensures { result ≡ same_numbers (numbers_in a) (numbers_in b) }
 {
@@ -58,48 +51,65 @@ fn same(a: Numbers, b: Numbers) -> bool
         && a.limit == b.limit
 }
 
-// Whether a slip's numbers are the code's.
-pub fn has_numbers(numbers: Numbers, code: &Code) -> bool
-    ensures { result ≡ same_numbers (numbers_in numbers) (numbers_of (view code.now)) }
+// Goes on where a test holds, and refuses where it does not.
+pub fn want(holds: bool, refusal: FrameRefusal) -> Result<(), FrameRefusal>
+    ensures { result ≡ (if holds then Ok tt else Err refusal) }
 {
-    same(numbers, numbers_of(code))
+    if holds { Ok(()) } else { Err(refusal) }
 }
 
-// Whether the area has the words that the code asks for.
-pub fn has_room(code: &Code, area: &[u16]) -> bool
-    ensures { result ≡ nat_le (area_words (view code.now)) (length area.now) }
+// Wants a field of the code's order.
+pub fn want_order<F: Field>(field: &F, code: &Code) -> Result<(), FrameRefusal>
+    ensures { result ≡ (if (F.Field.meaning field.now).order == (view code.now).header.order then Ok tt else Err FrameRefusal.Order) }
+{
+    let holds = u16::from(field.order()) == code.header().order;
+    want(holds, FrameRefusal::Order)
+}
+
+// Wants a slip with the code's numbers.
+pub fn want_numbers(numbers: Numbers, code: &Code) -> Result<(), FrameRefusal>
+    ensures { result ≡ (if same_numbers (numbers_in numbers) (numbers_of (view code.now)) then Ok tt else Err FrameRefusal.Numbers) }
+{
+    want(same(numbers, numbers_of(code)), FrameRefusal::Numbers)
+}
+
+// Wants as many words in the area as the code asks for.
+pub fn want_area(code: &Code, area: &[u16]) -> Result<(), FrameRefusal>
+    ensures { result ≡ (if nat_le (area_words (view code.now)) (length area.now) then Ok tt else Err FrameRefusal.Area) }
 {
     let header = code.header();
     let blocks = 2 * header.columns as usize + 2 * code.edges().len() + 36;
-    blocks * header.order as usize <= area.len()
+    let words = blocks * header.order as usize;
+    want(words <= area.len(), FrameRefusal::Area)
 }
 
-// Whether the code has the column.
-pub fn has_column(code: &Code, column: u16) -> bool
-    ensures { result ≡ nat_lt column (view code.now).header.columns }
+// Wants a column of the code.
+pub fn want_column(code: &Code, column: u16) -> Result<(), FrameRefusal>
+    ensures { result ≡ (if nat_lt column (view code.now).header.columns then Ok tt else Err FrameRefusal.Column) }
 {
-    column < code.header().columns
+    want(column < code.header().columns, FrameRefusal::Column)
 }
 
-// Whether a vector is as long as the field has codes.
-pub fn has_codes(code: &Code, size: usize) -> bool
-    ensures { result ≡ (size == (view code.now).header.order) }
+// Wants a vector as long as the field has codes.
+pub fn want_codes(code: &Code, size: usize) -> Result<(), FrameRefusal>
+    ensures { result ≡ (if size == (view code.now).header.order then Ok tt else Err FrameRefusal.Length) }
 {
-    size == code.header().order as usize
+    want(size == code.header().order as usize, FrameRefusal::Length)
 }
 
-// Whether a word is as long as the code has columns.
-pub fn has_columns(code: &Code, size: usize) -> bool
-    ensures { result ≡ (size == (view code.now).header.columns) }
+// Wants a word as long as the code has columns.
+pub fn want_columns(code: &Code, size: usize) -> Result<(), FrameRefusal>
+    ensures { result ≡ (if size == (view code.now).header.columns then Ok tt else Err FrameRefusal.Length) }
 {
-    size == code.header().columns as usize
+    let holds = size == code.header().columns as usize;
+    want(holds, FrameRefusal::Length)
 }
 
-// Whether a round is left.
-pub fn has_rounds(code: &Code, made: u16) -> bool
-    ensures { result ≡ nat_lt made (view code.now).header.limit }
+// Wants a round that is left.
+pub fn want_round(code: &Code, made: u16) -> Result<(), FrameRefusal>
+    ensures { result ≡ (if nat_lt made (view code.now).header.limit then Ok tt else Err FrameRefusal.Limit) }
 {
-    made < code.header().limit
+    want(made < code.header().limit, FrameRefusal::Limit)
 }
 
 // What a round tells: the rounds made, how many rows fail, and the pairs of its joins.

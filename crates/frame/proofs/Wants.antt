@@ -1,19 +1,16 @@
--- Tests of a call that pass or fail. Assumes nothing.
-use Rattle.std.proofs.Common.{◌≡◌, ℕ, ◌+◌, ◌*◌, Bool, true, false, cond, leb, List, get_or, take, drop, sym, refl, ap, ◌∙◌, arith}
+-- What a call leaves in the area by its tests, and the costs that are tested. Assumes nothing.
+use Rattle.std.proofs.Common.{◌≡◌, ℕ, ◌+◌, ◌*◌, true, false, cond, leb, List, get_or, take, drop, Ok, Err, Result, sym, refl, ap, ◌∙◌, arith}
+use Rattle.std.specs.Result.{is_ok}
 use Rattle.field.specs.Tables.{Tables}
 use Rattle.code.specs.Views.{View}
 use Rattle.tree.specs.Over.{every}
 use Rattle.tree.specs.Places.{width}
-use Rattle.tree.specs.Frame.{Slip, Call, Reply, Outcome, granted, refused, grants, want, outcome, held_words, area_words, parts_of, laid, next_parts, held_after, within}
+use Rattle.tree.specs.Frame.{Slip, Call, Reply, granted, refused, grants, outcome, held_words, area_words, parts_of, laid, next_parts, held_after, within}
 use Rattle.frame.specs.Words.{low_blocks}
-use Rattle.frame.specs.Calls.{AreaAfter}
+use Rattle.due.specs.declared.refusal.FrameRefusal.{FrameRefusal}
+use Rattle.due.specs.Refusals.{number_of}
+use Rattle.frame.specs.Calls.{AreaAfter, verdict_of}
 use Rattle.frame.proofs.Scans.{every_same}
-
-pub want_no : (b : Bool) (n : ℕ) (o : Outcome) → b ≡ false → want b n o ≡ refused n
-want_no b n o e = ap (λ x. want x n o) e
-
-pub want_yes : (b : Bool) (n : ℕ) (o : Outcome) → b ≡ true → want b n o ≡ o
-want_yes b n o e = ap (λ x. want x n o) e
 
 -- ---- what is left in the area
 pub area_refused : (F : Tables) (K : View) (call : Call) (s : Slip) (before : List ℕ) (n : ℕ) → outcome F K call before s ≡ refused n → AreaAfter F K call s before before
@@ -32,6 +29,17 @@ area_granted F K call s before after reply e held surplus = record {
   surplus = surplus;
   kept = λ h. absurd (let z : true ≡ false = sym (ap grants e) ∙ h in let y : ◌≡◌ {A = ℕ} 0 1 = cc in let x : ⊥ = omega arith in x);
 }
+
+-- where a refusal goes on under another error, the tests before it tell what they told
+pub before_ok : {D : Type 0} (F : Tables) (K : View) (call : Call) (s : Slip) (before : List ℕ) (reply : Reply) (r : Result (Unit {0}) FrameRefusal) (m : Result (Unit {0}) D) (x : Unit {0}) → outcome F K call before s ≡ verdict_of r reply →
+    is_ok m ≡ is_ok r → m ≡ Ok x → outcome F K call before s ≡ granted reply
+before_ok F K call s before reply (Ok y) m x o v w = o
+before_ok F K call s before reply (Err e) m x o v w = absurd (let z : true ≡ false = sym (ap is_ok w) ∙ v in let y : ◌≡◌ {A = ℕ} 0 1 = cc in omega arith)
+
+pub area_err : {D : Type 0} (F : Tables) (K : View) (call : Call) (s : Slip) (before : List ℕ) (reply : Reply) (r : Result (Unit {0}) FrameRefusal) (m : Result (Unit {0}) D) (d : D) → outcome F K call before s ≡ verdict_of r reply →
+    is_ok m ≡ is_ok r → m ≡ Err d → AreaAfter F K call s before before
+area_err F K call s before reply (Err e) m d o v w = area_refused F K call s before (number_of e) o
+area_err F K call s before reply (Ok x) m d o v w = absurd (let z : true ≡ false = sym v ∙ ap is_ok w in let y : ◌≡◌ {A = ℕ} 0 1 = cc in omega arith)
 
 -- ---- the costs that are tested
 pub channel_within : (K : View) (area : List ℕ) → low_blocks K.header.order 0 K.header.columns K.header.ceiling area ≡ within K K.header.columns (parts_of K area).channel

@@ -1,5 +1,5 @@
 -- What a call answers by its tests, and what it leaves in the area. Assumes nothing.
-use Rattle.std.specs.Prelude.{◌≡◌, ℕ, suc, ◌≤◌, false, List, length, take, drop, Some, None, Option, ◌==◌}
+use Rattle.std.specs.Prelude.{◌≡◌, ℕ, suc, ◌≤◌, false, List, length, take, drop, Ok, Err, Result, ◌==◌}
 use Rattle.field.specs.Tables.{Tables}
 use Rattle.code.specs.Views.{View}
 use Rattle.tree.specs.Rows.{PairsRule, round_pairs}
@@ -9,9 +9,9 @@ use Rattle.due.specs.declared.refusal.FrameRefusal.{FrameRefusal}
 use Rattle.due.specs.Refusals.{number_of}
 
 -- a call that nothing refuses is granted
-abbrev pub verdict_of : Option FrameRefusal → Reply → Outcome
-verdict_of None reply = granted reply
-verdict_of (Some e) reply = refused (number_of e)
+abbrev pub verdict_of : Result (Unit {0}) FrameRefusal → Reply → Outcome
+verdict_of (Ok x) reply = granted reply
+verdict_of (Err e) reply = refused (number_of e)
 
 -- the four parts and the surplus; a refused call leaves every word as it was
 pub record AreaAfter (F : Tables) (K : View) (call : Call) (slip : Slip) (before after : List ℕ) : Type 0 where
@@ -32,6 +32,6 @@ pub record ConcludeRows (F : Tables) (K : View) (numbers : Numbers) (area : List
   pub room : area_words K ≤ length area
   pub long : size ≡ K.header.columns
 
-abbrev pub conclude_tests : Option FrameRefusal → Tables → View → Numbers → List ℕ → ℕ → Type 0
-conclude_tests (Some e) F K numbers area size = (made : ℕ) → Frame.outcome F K (concludes size) area (running numbers made) ≡ refused (number_of e)
-conclude_tests None F K numbers area size = ConcludeRows F K numbers area size
+abbrev pub conclude_tests : Result (Unit {0}) FrameRefusal → Tables → View → Numbers → List ℕ → ℕ → Type 0
+conclude_tests (Err e) F K numbers area size = (made : ℕ) → Frame.outcome F K (concludes size) area (running numbers made) ≡ refused (number_of e)
+conclude_tests (Ok x) F K numbers area size = ConcludeRows F K numbers area size

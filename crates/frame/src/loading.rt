@@ -8,30 +8,23 @@ ghost use Rattle.frame.specs.Calls.{verdict_of, AreaAfter};
 use crate::slip::LoadingSlip;
 use crate::words::store;
 use code::code::Code;
-use due::{FrameRefusal, has_codes, has_column, has_numbers, has_room};
+use due::{FrameRefusal, want_area, want_codes, want_column, want_numbers};
 
-fn refusal(
+// The tests of load.
+#[tactic(auto, unfolding(tree::specs::Frame::outcome))]
+fn grant(
     code: &Code,
     slip: &LoadingSlip,
     area: &[u16],
     column: u16,
     values: &[u16],
-) -> Option<FrameRefusal>
+) -> Result<(), FrameRefusal>
     ensures { (F : Tables) → outcome F (view code.now) (loads column values.now) area.now (loading_of slip.now) ≡ verdict_of result done }
 {
-    if !has_numbers(slip.numbers, code) {
-        return Some(FrameRefusal::Numbers);
-    }
-    if !has_room(code, area) {
-        return Some(FrameRefusal::Area);
-    }
-    if !has_column(code, column) {
-        return Some(FrameRefusal::Column);
-    }
-    if !has_codes(code, values.len()) {
-        return Some(FrameRefusal::Length);
-    }
-    None
+    want_numbers(slip.numbers, code)?;
+    want_area(code, area)?;
+    want_column(code, column)?;
+    want_codes(code, values.len())
 }
 
 // Stores a column's channel costs: each value less the least value given, lowered to the ceiling.
@@ -46,9 +39,7 @@ pub fn load(
     ensures answer { (F : Tables) → loaded result ≡ outcome F (view code.now) (loads column values.now) area.old (loading_of slip.now) }
     ensures area { (F : Tables) → AreaAfter F (view code.now) (loads column values.now) (loading_of slip.now) area.old area.new }
 {
-    if let Some(refusal) = refusal(code, slip, area, column, values) {
-        return Err(refusal);
-    }
+    grant(code, slip, area, column, values)?;
     let header = code.header();
     store(
         area,

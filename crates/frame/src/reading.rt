@@ -8,30 +8,23 @@ ghost use Rattle.frame.specs.Calls.{verdict_of};
 use crate::decide::lowest;
 use crate::slip::RunningSlip;
 use code::code::Code;
-use due::{FrameRefusal, distances_at, has_codes, has_column, has_numbers, has_room};
+use due::{FrameRefusal, distances_at, want_area, want_codes, want_column, want_numbers};
 
-fn refusal(
+// The tests of read.
+#[tactic(auto, unfolding(tree::specs::Frame::outcome))]
+fn grant(
     code: &Code,
     slip: &RunningSlip,
     area: &[u16],
     column: u16,
     size: usize,
-) -> Option<FrameRefusal>
+) -> Result<(), FrameRefusal>
     ensures { (F : Tables) → outcome F (view code.now) (reads column size) area.now (running_of slip.now) ≡ verdict_of result (column_told (told (view code.now) (parts_of (view code.now) area.now) column) (decided (view code.now) (parts_of (view code.now) area.now) column)) }
 {
-    if !has_numbers(slip.numbers, code) {
-        return Some(FrameRefusal::Numbers);
-    }
-    if !has_room(code, area) {
-        return Some(FrameRefusal::Area);
-    }
-    if !has_column(code, column) {
-        return Some(FrameRefusal::Column);
-    }
-    if !has_codes(code, size) {
-        return Some(FrameRefusal::Length);
-    }
-    None
+    want_numbers(slip.numbers, code)?;
+    want_area(code, area)?;
+    want_column(code, column)?;
+    want_codes(code, size)
 }
 
 // Copies a column's distances to the target and answers its decided symbol, the lowest code of least distance.
@@ -46,9 +39,7 @@ pub fn read(
     ensures answer { (F : Tables) → read_out result target.new ≡ outcome F (view code.now) (reads column (length target.old)) area.now (running_of slip.now) }
     ensures target { (F : Tables) → target.new ≡ (if grants (outcome F (view code.now) (reads column (length target.old)) area.now (running_of slip.now)) then told (view code.now) (parts_of (view code.now) area.now) column else target.old) }
 {
-    if let Some(refusal) = refusal(code, slip, area, column, target.len()) {
-        return Err(refusal);
-    }
+    grant(code, slip, area, column, target.len())?;
     let header = code.header();
     let q = header.order as usize;
     let at = distances_at(header, column);

@@ -11,37 +11,28 @@ use crate::lows::{channel_low, to_check_low};
 use crate::slip::RunningSlip;
 use crate::symbols::failing_rows;
 use code::code::Code;
-use due::{FrameRefusal, Told, has_numbers, has_order, has_room, has_rounds, one_more, told_of};
+use due::{
+    FrameRefusal, Told, one_more, told_of, want, want_area, want_numbers, want_order, want_round,
+};
 use field::Field;
 use joiner::Joiner;
 
-fn refusal<F: Field>(
+// The tests of round.
+#[tactic(auto, unfolding(tree::specs::Frame::outcome))]
+fn grant<F: Field>(
     field: &F,
     code: &Code,
     slip: &RunningSlip,
     area: &[u16],
-) -> Option<FrameRefusal>
+) -> Result<(), FrameRefusal>
     ensures { (pairs : PairsRule) → outcome (F.Field.meaning field.now) (view code.now) (rounds pairs) area.now (running_of slip.now) ≡ verdict_of result (round_reply (F.Field.meaning field.now) (view code.now) pairs area.now slip.now.made) }
 {
-    if !has_order(field, code) {
-        return Some(FrameRefusal::Order);
-    }
-    if !has_numbers(slip.numbers, code) {
-        return Some(FrameRefusal::Numbers);
-    }
-    if !has_room(code, area) {
-        return Some(FrameRefusal::Area);
-    }
-    if !channel_low(code, area) {
-        return Some(FrameRefusal::Cost);
-    }
-    if !to_check_low(code, area) {
-        return Some(FrameRefusal::Cost);
-    }
-    if !has_rounds(code, slip.made) {
-        return Some(FrameRefusal::Limit);
-    }
-    None
+    want_order(field, code)?;
+    want_numbers(slip.numbers, code)?;
+    want_area(code, area)?;
+    want(channel_low(code, area), FrameRefusal::Cost)?;
+    want(to_check_low(code, area), FrameRefusal::Cost)?;
+    want_round(code, slip.made)
 }
 
 // Makes one round and tells the rounds made, how many rows fail and the pairs of its joins; the slip counts the round.
@@ -59,9 +50,7 @@ pub fn round<F: Field, J: Joiner>(
     ensures area { AreaAfter (F.Field.meaning field.now) (view code.now) (rounds (J.Joiner.pairs joiner.now)) (running_of slip.old) area.old area.new }
     ensures law { FromStands }
 {
-    if let Some(refusal) = refusal(field, code, slip, area) {
-        return Err(refusal);
-    }
+    grant(field, code, slip, area)?;
     let pairs = body(
         field,
         joiner,

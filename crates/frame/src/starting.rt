@@ -13,21 +13,16 @@ use crate::lows::channel_low;
 use crate::slip::{LoadingSlip, NotStarted, RunningSlip};
 use code::code::Code;
 use code::table::Edge;
-use due::{FrameRefusal, Numbers, has_numbers, has_room};
+use due::{FrameRefusal, Numbers, want, want_area, want_numbers};
 
-fn refusal(code: &Code, numbers: Numbers, area: &[u16]) -> Option<FrameRefusal>
+// The tests of start.
+#[tactic(auto, unfolding(tree::specs::Frame::outcome))]
+fn grant(code: &Code, numbers: Numbers, area: &[u16]) -> Result<(), FrameRefusal>
     ensures { (F : Tables) → outcome F (view code.now) starts area.now (loading (numbers_in numbers)) ≡ verdict_of result (slip_given (running (numbers_of (view code.now)) 0)) }
 {
-    if !has_numbers(numbers, code) {
-        return Some(FrameRefusal::Numbers);
-    }
-    if !has_room(code, area) {
-        return Some(FrameRefusal::Area);
-    }
-    if !channel_low(code, area) {
-        return Some(FrameRefusal::Cost);
-    }
-    None
+    want_numbers(numbers, code)?;
+    want_area(code, area)?;
+    want(channel_low(code, area), FrameRefusal::Cost)
 }
 
 // Copies each edge's column of channel costs to its to-check costs.
@@ -56,10 +51,8 @@ pub fn start(code: &Code, slip: LoadingSlip, area: &mut [u16]) -> Result<Running
     ensures back { (F : Tables) → start_back result ≡ (if grants (outcome F (view code.now) starts area.old (loading_of slip)) then None else Some (loading_of slip)) }
     ensures area { (F : Tables) → AreaAfter F (view code.now) starts (loading_of slip) area.old area.new }
 {
-    if let Some(refusal) = refusal(code, slip.numbers, area) {
-        return Err(NotStarted { refusal, slip });
-    }
     let numbers = slip.numbers;
+    grant(code, numbers, area).map_err(|refusal| NotStarted { refusal, slip })?;
     let q = numbers.order as usize;
     let n = numbers.columns as usize;
     begin(area, q, n);

@@ -13,18 +13,10 @@ use Rattle.frame.proofs.reading.read.Goals as goal
 any : Tables
 any = record { order = 0; sum = λ a b. 0; product = λ a b. 0 }
 
-pub returns-in-Some : goal.returns-in-Some
-returns-in-Some c =
-    let K = view c.args.code.now in
-    record {
-      answer = λ F. sym (c.in-Some.ensures F);
-      target = λ F. sym (ap (λ o. cond (grants o) (told K (parts_of K c.args.area.now) c.args.column) c.args.target.now) (c.in-Some.ensures F));
-    }
-
 pub slice_bounds-copy_from_slice-end : goal.slice_bounds-copy_from_slice-end
 slice_bounds-copy_from_slice-end c =
     let K = view c.args.code.now in let area = c.args.area.now in
-    let p = read_passed any K area _ c.args.slip.now.made c.args.column _ _ (c.in_default.ensures any) in
+    let p = read_passed any K area _ c.args.slip.now.made c.args.column _ _ (c.in_ok-grant.ensures any) in
     let b = block_room (K.header.columns + c.args.column) (2 * K.header.columns + 2 * length K.edges + 36) K.header.order (length area) (omega (arith, p.column)) p.room in
     let r = subst (λ h. (h.columns + c.args.column) * h.order + h.order ≤ length area) (sym c.header-header.ensures.answer) b in
     omega arith
@@ -32,7 +24,7 @@ slice_bounds-copy_from_slice-end c =
 pub copy_from_slice-requires : goal.copy_from_slice-requires
 copy_from_slice-requires c =
     let K = view c.args.code.now in let area = c.args.area.now in let h = c.header-header.result in
-    let p = read_passed any K area _ c.args.slip.now.made c.args.column _ _ (c.in_default.ensures any) in
+    let p = read_passed any K area _ c.args.slip.now.made c.args.column _ _ (c.in_ok-grant.ensures any) in
     let b = block_room (K.header.columns + c.args.column) (2 * K.header.columns + 2 * length K.edges + 36) K.header.order (length area) (omega (arith, p.column)) p.room in
     let s = subst (λ h. (h.columns + c.args.column) * h.order + h.order ≤ length area) (sym c.header-header.ensures.answer) b in
     let at : ℕ = c.distances_at-at.result in
@@ -43,7 +35,7 @@ copy_from_slice-requires c =
 pub lowest-requires : goal.lowest-requires
 lowest-requires c =
     let K = view c.args.code.now in let R = rules_of _ _ _ c.args.code.now.admitted in
-    let p = read_passed any K c.args.area.now _ c.args.slip.now.made c.args.column _ _ (c.in_default.ensures any) in
+    let p = read_passed any K c.args.area.now _ c.args.slip.now.made c.args.column _ _ (c.in_ok-grant.ensures any) in
     let l : length c.copy_from_slice.new.self ≡ K.header.order = c.copy_from_slice.ensures.len ∙ p.long in
     (omega (arith, R.header.order.0), omega (arith, R.header.order.1))
 
@@ -51,7 +43,7 @@ pub returns : goal.returns
 unfolding told decided parts_of
 returns c =
     let K = view c.args.code.now in let area = c.args.area.now in let R = rules_of _ _ _ c.args.code.now.admitted in
-    let p = read_passed any K area _ c.args.slip.now.made c.args.column _ _ (c.in_default.ensures any) in
+    let p = read_passed any K area _ c.args.slip.now.made c.args.column _ _ (c.in_ok-grant.ensures any) in
     let q : ℕ = K.header.order in
     let j : ℕ = K.header.columns + c.args.column in
     let b = block_room j (2 * K.header.columns + 2 * length K.edges + 36) q (length area) (omega (arith, p.column)) p.room in
@@ -63,6 +55,6 @@ returns c =
     let d : c.lowest.result ≡ decided K (parts_of K area) c.args.column =
     c.lowest.ensures.is ∙ ap (λ v. lowest_to (pred (length v)) (λ a. get_or v a 0)) part ∙ part_lowest area (j * q) q b (omega (arith, R.header.order.0)) in
     record {
-      answer = λ F. ap₂ (λ w x. granted (column_told w x)) new d ∙ sym (c.in_default.ensures F);
-      target = λ F. new ∙ sym (ap (λ o. cond (grants o) (told K (parts_of K area) c.args.column) c.args.target.now) (c.in_default.ensures F));
+      answer = λ F. ap₂ (λ w x. granted (column_told w x)) new d ∙ sym (c.in_ok-grant.ensures F);
+      target = λ F. new ∙ sym (ap (λ o. cond (grants o) (told K (parts_of K area) c.args.column) c.args.target.now) (c.in_ok-grant.ensures F));
     }

@@ -2,7 +2,6 @@ use Rattle.std.proofs.Common.{◌≡◌, suc, ◌≤◌, min, cond, sym, ap, ◌
 use Rattle.code.proofs.Lawfully.{rules_of}
 use Rattle.code.specs.Views.{view}
 use Rattle.tree.specs.Frame.{rounds, running, granted, grants, area_words, parts_of, next_slip, round_told, decided}
-use Rattle.due.specs.Refusals.{number_of}
 use Rattle.frame.specs.Slips.{running_of}
 use Rattle.due.specs.Numbers.{numbers_in}
 use Rattle.frame.proofs.Wants.{area_refused, area_granted}
@@ -14,22 +13,19 @@ use Rattle.frame.proofs.Passed.{round_passed}
 use Rattle.frame.proofs.Rounded.{same_failing}
 use Rattle.frame.proofs.rounding.round.Goals as goal
 
-pub returns-in-Some : goal.returns-in-Some
-returns-in-Some g c =
-    let F = g.F.Field.meaning c.args.field.now in let J = g.J.Joiner.pairs c.args.joiner.now in let K = view c.args.code.now in
-    let s = running_of c.args.slip.now in
-    record {
-      answer = sym (c.in-Some.ensures J);
-      slip = sym (ap (λ o. cond (grants o) (next_slip K (rounds J) s) s) (c.in-Some.ensures J));
-      area = area_refused F K (rounds J) s c.args.area.now (number_of c.in-Some.refusal) (c.in-Some.ensures J);
-      law = from_theorem;
-    }
+pub returns-in_err-grant-clause-area : goal.returns-in_err-grant-clause-area
+returns-in_err-grant-clause-area g c =
+    let J = g.J.Joiner.pairs c.args.joiner.now in
+    area_refused (g.F.Field.meaning c.args.field.now) (view c.args.code.now) (rounds J) (running_of c.args.slip.now) c.args.area.now _ (c.in_err-grant.ensures J)
+
+pub returns-in_err-grant-clause-law : goal.returns-in_err-grant-clause-law
+returns-in_err-grant-clause-law g c = from_theorem
 
 pub body-pairs-requires : goal.body-pairs-requires
 body-pairs-requires g c =
     let F = g.F.Field.meaning c.args.field.now in let J = g.J.Joiner.pairs c.args.joiner.now in let K = view c.args.code.now in
     let R = rules_of _ _ _ c.args.code.now.admitted in
-    let p = round_passed F K c.args.area.now _ c.args.slip.now.made J _ (c.in_default.ensures J) in
+    let p = round_passed F K c.args.area.now _ c.args.slip.now.made J _ (c.in_ok-grant.ensures J) in
     let r : Ready K c.args.area.now = record { admitted = R; room = p.room; channel = p.channel; to_check = p.to_check } in
     record {
       order = p.order ∙ sym (ap (λ h. h.order) c.header.ensures.answer);
@@ -41,7 +37,7 @@ body-pairs-requires g c =
 pub failing_rows-failing-requires : goal.failing_rows-failing-requires
 failing_rows-failing-requires g c =
     let F = g.F.Field.meaning c.args.field.now in let J = g.J.Joiner.pairs c.args.joiner.now in let K = view c.args.code.now in
-    let p = round_passed F K c.args.area.now _ c.args.slip.now.made J _ (c.in_default.ensures J) in
+    let p = round_passed F K c.args.area.now _ c.args.slip.now.made J _ (c.in_ok-grant.ensures J) in
     record { order = p.order; room = subst (λ n. area_words K ≤ n) (sym c.body-pairs.auto.area) p.room }
 
 pub returns : goal.returns
@@ -60,7 +56,7 @@ returns g c =
     ∙ ap (λ E. round_pairs J F (code_of K.header E c.entries.result.now) (parts_of (code_of K.header E c.entries.result.now) before).to_check) c.edges.ensures.answer
     ∙ ap (λ S. round_pairs J F (code_of K.header K.edges S) (parts_of (code_of K.header K.edges S) before).to_check) c.entries.ensures.answer in
     let f : c.failing_rows-failing.result ≡ failing F K (decided K (next_parts F K (rounds J) (parts_of K before))) = c.failing_rows-failing.ensures ∙ same_failing F K R J before after M.held in
-    let o = c.in_default.ensures J in
+    let o = c.in_ok-grant.ensures J in
     let p = round_passed F K before _ c.args.slip.now.made J _ o in
     let few : min (suc c.args.slip.now.made) 65535 ≡ suc c.args.slip.now.made = omega (arith, p.left, R.header.limit.1) in
     let more : c.one_more-made.result ≡ suc c.args.slip.now.made = c.one_more-made.ensures ∙ few in
