@@ -12,18 +12,8 @@ use field::Field;
 
 mod refusal;
 
+pub use code::numbers::Numbers;
 pub use refusal::FrameRefusal;
-
-// The numbers of a code: q, N, M, W, C and L.
-#[derive(Clone, Copy)]
-pub struct Numbers {
-    pub order: u16,
-    pub columns: u16,
-    pub rows: u16,
-    pub width: usize,
-    pub ceiling: u16,
-    pub limit: u16,
-}
 
 // The numbers of a code.
 pub fn numbers_of(code: &Code) -> Numbers
@@ -34,21 +24,10 @@ pub fn numbers_of(code: &Code) -> Numbers
         order: header.order,
         columns: header.columns,
         rows: header.rows,
-        width: code.edges().len(),
+        edges: code.edges().len(),
         ceiling: header.ceiling,
         limit: header.limit,
     }
-}
-
-fn same(a: Numbers, b: Numbers) -> bool
-    ensures { result ≡ same_numbers (numbers_in a) (numbers_in b) }
-{
-    a.order == b.order
-        && a.columns == b.columns
-        && a.rows == b.rows
-        && a.width == b.width
-        && a.ceiling == b.ceiling
-        && a.limit == b.limit
 }
 
 // Goes on where a test holds, and refuses where it does not.
@@ -67,10 +46,11 @@ pub fn want_order<F: Field>(field: &F, code: &Code) -> Result<(), FrameRefusal>
 }
 
 // Wants a slip with the code's numbers.
+#[tactic(auto, unfolding(tree::specs::Frame::same_numbers))]
 pub fn want_numbers(numbers: Numbers, code: &Code) -> Result<(), FrameRefusal>
     ensures { result ≡ (if same_numbers (numbers_in numbers) (numbers_of (view code.now)) then Ok tt else Err FrameRefusal.Numbers) }
 {
-    want(same(numbers, numbers_of(code)), FrameRefusal::Numbers)
+    want(numbers == numbers_of(code), FrameRefusal::Numbers)
 }
 
 // Wants as many words in the area as the code asks for.

@@ -27,7 +27,7 @@ pub fn open<F: Field>(field: &F, code: &Code, area: &mut [u16]) -> Result<Loadin
 {
     grant(field, code, area)?;
     let numbers = numbers_of(code);
-    let held = (2 * numbers.columns as usize + 2 * numbers.width) * numbers.order as usize;
+    let held = (2 * numbers.columns as usize + 2 * numbers.edges) * numbers.order as usize;
     clear(area, held);
     Ok(LoadingSlip { numbers })
 }

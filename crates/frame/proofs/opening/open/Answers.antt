@@ -15,8 +15,8 @@ pub overflow_mul-held-3 : goal.overflow_mul-held-3
 overflow_mul-held-3 g c =
     let R = rules_of _ _ _ c.args.code.now.admitted in let K = view c.args.code.now in
     let n = c.numbers_of-numbers.result in let e = c.numbers_of-numbers.ensures in
-    let a : n.columns ≡ K.header.columns = ap (λ x. x.columns) e in let b : n.width ≡ length K.edges = ap (λ x. x.width) e in let d : n.order ≡ K.header.order = ap (λ x. x.order) e in
-    omega (arith, R.few_edges, mul-le (2 * n.columns + 2 * n.width) n.order 2560 64 (omega (arith, R.header.columns.1, R.few_edges)) (omega (arith, R.header.order.1)))
+    let a : n.columns ≡ K.header.columns = ap (λ x. x.columns) e in let b : n.edges ≡ length K.edges = ap (λ x. x.width) e in let d : n.order ≡ K.header.order = ap (λ x. x.order) e in
+    omega (arith, R.few_edges, mul-le (2 * n.columns + 2 * n.edges) n.order 2560 64 (omega (arith, R.header.columns.1, R.few_edges)) (omega (arith, R.header.order.1)))
 
 pub clear-requires : goal.clear-requires
 clear-requires g c =
