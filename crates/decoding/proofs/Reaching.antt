@@ -1,5 +1,7 @@
 -- How far the rounds that are due have come: one more of them, and their end. Assumes nothing.
-use Rattle.std.proofs.Common.{◌≡◌, ℕ, zero, suc, ◌+◌, ◌-◌, ◌≤◌, Bool, true, false, cond, not, ◌&&◌, eqb, ltb, leb, List, ◌++◌, length, take, drop, Some, None, Option, sym, refl, ap, ◌∙◌, subst, ap₂, arith}
+use Rattle.std.proofs.Common.{◌≡◌, ℕ, zero, suc, ◌+◌, ◌-◌, ◌≤◌, Bool, true, false, cond, not, ◌&&◌, eqb, ltb, leb, List, ◌++◌, length, take, drop, Some, None, Ok, Err, Option, Result, sym, refl, ap, ◌∙◌, subst, ap₂, arith}
+use Rattle.std.specs.Result.{MatchResult, IsErrAnd}
+use Rattle.std.proofs.lemmas.Result.{err_from_is_err_and}
 use Rattle.std.proofs.lemmas.Bool.{and_parts, eq-eqb, ne_eqb, eqb-true, eqb-false, leb-true}
 use Rattle.due.specs.declared.refusal.FrameRefusal.{FrameRefusal}
 use Rattle.due.specs.Refusals.{number_of}
@@ -16,6 +18,15 @@ use Rattle.tree.proofs.Alike.{failing_same, alike_fails, alike_round, alike_laid
 use Rattle.tree.proofs.Decodings.{RoundPassed, round_passed}
 use Rattle.frame.specs.Calls.{AreaAfter}
 use Rattle.decoding.specs.Ends.{last_failing, Settled}
+
+-- ---- what an answer under another error comes from
+pub before_ok : {T E D : Type 0} (P : E → D → Type 0) (r : Result T E) (m : Result T D) (x : T) → MatchResult r (λ y. m ≡ Ok y) (λ e. IsErrAnd m (P e)) → m ≡ Ok x → r ≡ Ok x
+before_ok P (Ok y) m x h w = cc
+before_ok P (Err e) m x h w = let p = err_from_is_err_and m h in let q = p.1 in absurd (cc)
+
+pub before_err : {T E D : Type 0} (P : E → D → Type 0) (r : Result T E) (m : Result T D) (d : D) → MatchResult r (λ y. m ≡ Ok y) (λ e. IsErrAnd m (P e)) → m ≡ Err d → (e : E) × (r ≡ Err e) × P e d
+before_err P (Ok y) m d h w = absurd (cc)
+before_err P (Err e) m d h w = let p = err_from_is_err_and m h in let q : m ≡ Err p.0 = p.1 in let z : p.0 ≡ d = cc in (e, refl, subst (P e) z p.2)
 
 -- ---- the tests of conclude before the rows
 pub record Opened (F : Tables) (K : View) (size : ℕ) (area : List ℕ) (n : Numbers) : Type 0 where
@@ -304,7 +315,7 @@ module _ (F : Tables) (K : View) (R : Admitted K) (pairs : PairsRule) (f : Frame
       }
 
   pub settled_whole : (area after : List ℕ) (n : Numbers) (r m x p : ℕ) (last : Option ℕ) (left : Slip) → Reached F K pairs f area n r last → outcome F K (rounds pairs) area (running n r) ≡ granted (round_told m x p) →
-      AreaAfter F K (rounds pairs) (running n r) area after → length after ≡ length area → left ≡ running n (suc r) → Words after → eqb x 0 ≡ true → Settled F K pairs f after left (record { refusal = None; failing = Some x })
+      AreaAfter F K (rounds pairs) (running n r) area after → length after ≡ length area → left ≡ running n (suc r) → Words after → eqb x 0 ≡ true → Settled F K pairs f after left (Ok tt)
   settled_whole area after n r m x p last left t g a long is typed none =
       let N = K.header.columns in
       let u = more area after n r m x p t.at t.fail g a long in
@@ -318,13 +329,13 @@ module _ (F : Tables) (K : View) (R : Admitted K) (pairs : PairsRule) (f : Frame
           kept = λ z. absurd (u.some (k ∙ z));
         };
         slip = is ∙ sym u.now_at.slip ∙ ap (λ h. h.slip) end;
-        failing = ap Some u.rows ∙ sym (ap (λ b. cond b None (Some (fails F K model))) (ne_eqb u.now_at.made 0 u.some)) ∙ ap₂ (λ j h. last_failing j (fails F K h)) k end;
+        failing = ap Some (sym (eqb-true x 0 none) ∙ u.rows) ∙ sym (ap (λ b. cond b None (Some (fails F K model))) (ne_eqb u.now_at.made 0 u.some)) ∙ ap₂ (λ j h. last_failing j (fails F K h)) k end;
         words = typed;
         why = ap (λ h. grants (conclude_on F K N h)) w.0.end ∙ w.1;
       }
 
   pub settled_refused : (area after : List ℕ) (n : Numbers) (r : ℕ) (last : Option ℕ) (left : Slip) (e : FrameRefusal) → Reached F K pairs f area n r last → outcome F K (rounds pairs) area (running n r) ≡ refused (number_of e) →
-      after ≡ area → left ≡ running n r → Words after → Settled F K pairs f after left (record { refusal = Some e; failing = last })
+      after ≡ area → left ≡ running n r → Words after → Settled F K pairs f after left (Err (record { refusal = e; failing = last }))
   settled_refused area after n r last left e t o same is typed =
       let N = K.header.columns in
       let model = t.at.model in

@@ -2,7 +2,6 @@
 use Rattle.std.specs.Prelude.{◌≡◌, ℕ, true, cond, List, Some, None, Ok, Err, Option, Result, ◌==◌}
 use Rattle.field.specs.Tables.{Tables}
 use Rattle.code.specs.Views.{View}
-use Rattle.due.specs.declared.refusal.FrameRefusal.{FrameRefusal}
 use Rattle.due.specs.Refusals.{number_of}
 use Rattle.tree.specs.Rows.{PairsRule}
 use Rattle.tree.specs.Frame.{Slip, Frame, Words, Outcome, granted, refused, grants, word_told}
@@ -40,13 +39,18 @@ pub record AreaAtEnd (F : Tables) (K : View) (pairs : PairsRule) (size : ℕ) (f
   pub kept : rounds_to F K pairs size f ≡ 0 → after ≡ f.area
 
 -- why the rounds stopped: conclude is granted, or a row fails and the next round is refused
-abbrev pub Why : Tables → View → PairsRule → Option FrameRefusal → Frame → Type 0
-Why F K pairs None g = grants (conclude_on F K K.header.columns g) ≡ true
-Why F K pairs (Some e) g = (conclude_on F K K.header.columns g ≡ refused 24) × (stopped (round_on F K pairs g) ≡ stopped (refused (number_of e)))
+abbrev pub Why : Tables → View → PairsRule → Result (Unit {0}) Stop → Frame → Type 0
+Why F K pairs (Ok x) g = grants (conclude_on F K K.header.columns g) ≡ true
+Why F K pairs (Err stop) g = (conclude_on F K K.header.columns g ≡ refused 24) × (stopped (round_on F K pairs g) ≡ stopped (refused (number_of stop.refusal)))
 
-pub record Settled (F : Tables) (K : View) (pairs : PairsRule) (f : Frame) (after : List ℕ) (left : Slip) (stop : Stop) : Type 0 where
+-- how many rows fail after the last round, as it is told: none after a round that leaves none
+abbrev pub failing_told : Result (Unit {0}) Stop → Option ℕ
+failing_told (Ok x) = Some 0
+failing_told (Err stop) = stop.failing
+
+pub record Settled (F : Tables) (K : View) (pairs : PairsRule) (f : Frame) (after : List ℕ) (left : Slip) (end : Result (Unit {0}) Stop) : Type 0 where
   pub area : AreaAtEnd F K pairs K.header.columns f after
   pub slip : left ≡ (at_end F K pairs K.header.columns f).slip
-  pub failing : stop.failing ≡ last_failing (rounds_to F K pairs K.header.columns f) (fails F K (at_end F K pairs K.header.columns f))
+  pub failing : failing_told end ≡ last_failing (rounds_to F K pairs K.header.columns f) (fails F K (at_end F K pairs K.header.columns f))
   pub words : Words after
-  pub why : Why F K pairs stop.refusal (at_end F K pairs K.header.columns f)
+  pub why : Why F K pairs end (at_end F K pairs K.header.columns f)

@@ -5,7 +5,7 @@ ghost use Rattle.tree.specs.Frame.{refused, grants, parts_of, word_of};
 ghost use Rattle.tree.specs.Decoding.{fails, at_end, rounds_to, stopped, decoding as decoding_of, OwnRun, DecodingStands};
 ghost use Rattle.decoding.specs.Ends.{frame_of, last_failing, decoded as decoded_by, slip_back, failing_back, AreaAtEnd};
 
-use crate::settling::settle;
+use crate::settling::{Stop, settle};
 use code::code::Code;
 use field::Field;
 use frame::{FrameRefusal, NotConcluded, RunningSlip, conclude};
@@ -20,14 +20,25 @@ pub struct NotDecoded {
     pub slip: RunningSlip,
 }
 
+// A refusal before any round.
+impl From<NotConcluded> for NotDecoded {
+    ghost from_gives = { λ back given. given ≡ record { refusal = back.refusal; failing = None; slip = back.slip } };
+
+    fn from(back: NotConcluded) -> NotDecoded {
+        let NotConcluded { refusal, slip } = back;
+        NotDecoded {
+            refusal,
+            failing: None,
+            slip,
+        }
+    }
+}
+
 // Whether a refusal tells a row that fails.
 fn is_row(refusal: FrameRefusal) -> bool
     ensures { result ≡ (number_of refusal == 24) }
 {
-    match refusal {
-        FrameRefusal::RowFails => true,
-        _ => false,
-    }
+    refusal == FrameRefusal::RowFails
 }
 
 // What a refused round means while a row fails: at the limit the row is told.
@@ -59,31 +70,19 @@ pub fn decode<F: Field, J: Joiner>(
     ensures run { OwnRun (F.Field.meaning field.now) (view code.now) (J.Joiner.pairs joiner.now) (length word.old) (frame_of area.old slip) area.new }
     ensures law { DecodingStands }
 {
-    let NotConcluded { refusal, mut slip } = match conclude(field, code, slip, area, word) {
-        Ok(rounds) => return Ok(rounds),
-        Err(back) => back,
-    };
-    if !is_row(refusal) {
-        return Err(NotDecoded {
-            refusal,
-            failing: None,
-            slip,
-        });
-    }
-    let stop = settle(field, joiner, code, &mut slip, area);
-    if let Some(refusal) = stop.refusal {
-        return Err(NotDecoded {
-            refusal: reason(refusal),
-            failing: stop.failing,
-            slip,
-        });
-    }
+    // Stays (plain): one refusal goes on instead of back, so `?` can't stand for this match.
     match conclude(field, code, slip, area, word) {
         Ok(rounds) => Ok(rounds),
-        Err(NotConcluded { refusal, slip }) => Err(NotDecoded {
-            refusal,
-            failing: stop.failing,
-            slip,
-        }),
+        Err(NotConcluded { refusal, mut slip }) if is_row(refusal) => {
+            if let Err(Stop { refusal, failing }) = settle(field, joiner, code, &mut slip, area) {
+                return Err(NotDecoded {
+                    refusal: reason(refusal),
+                    failing,
+                    slip,
+                });
+            }
+            Ok(conclude(field, code, slip, area, word)?)
+        }
+        Err(back) => Err(NotDecoded::from(back)),
     }
 }

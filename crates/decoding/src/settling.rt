@@ -11,43 +11,34 @@ use field::Field;
 use frame::{FrameRefusal, RunningSlip, round};
 use joiner::Joiner;
 
-// Why no further round is made: the refusal of the next one, or none if no row fails; and how many rows failed after the last
-// round, if one was made.
+// Why no further round is made while a row fails: the refusal of the next one, and how many rows failed after the last round, if
+// one was made.
 #[derive(Drop)]
 pub struct Stop {
-    pub refusal: Option<FrameRefusal>,
+    pub refusal: FrameRefusal,
     pub failing: Option<u16>,
 }
 
-// Makes rounds on a frame of which a row fails, until none fails or a round is refused.
+// Makes rounds on a frame of which a row fails, until none fails; tells where a round is refused before.
 pub fn settle<F: Field, J: Joiner>(
     field: &F,
     joiner: &J,
     code: &Code,
     slip: &mut RunningSlip,
     area: &mut [u16],
-) -> Stop
+) -> Result<(), Stop>
     requires { conclude_on (F.Field.meaning field.now) (view code.now) (view code.now).header.columns (frame_of area.old slip.old) ≡ refused 24 }
     ensures { Settled (F.Field.meaning field.now) (view code.now) (J.Joiner.pairs joiner.now) (frame_of area.old slip.old) area.new (running_of slip.new) result }
 {
     let mut failing = None;
     loop {
-        match round(field, joiner, code, slip, area) {
-            Err(refusal) => {
-                return Stop {
-                    refusal: Some(refusal),
-                    failing,
-                };
-            }
-            Ok(told) => {
-                failing = Some(told.failing);
-                if none_fails(told.failing) {
-                    return Stop {
-                        refusal: None,
-                        failing,
-                    };
-                }
-            }
+        let told = round(field, joiner, code, slip, area).map_err(|refusal| Stop {
+            refusal,
+            failing,
+        })?;
+        if none_fails(told.failing) {
+            return Ok(());
         }
+        failing = Some(told.failing);
     }
 }
