@@ -16,6 +16,7 @@ pub use code::numbers::Numbers;
 pub use refusal::FrameRefusal;
 
 // The numbers of a code.
+// Stays (plain): as a `From` it would have to stand beside `Numbers` in crate code, far from the slips whose numbers it is compared with.
 pub fn numbers_of(code: &Code) -> Numbers
     ensures { numbers_in result ≡ numbers_of (view code.now) }
 {
@@ -36,6 +37,9 @@ pub fn want(holds: bool, refusal: FrameRefusal) -> Result<(), FrameRefusal>
 {
     if holds { Ok(()) } else { Err(refusal) }
 }
+
+// Stays (plain): each call asks its own list of the tests below, one to a line and in the order of its refusals. Most lists have the
+// numbers and then the area; a function for these two would spare a line in each and hide that order.
 
 // Wants a field of the code's order.
 pub fn want_order<F: Field>(field: &F, code: &Code) -> Result<(), FrameRefusal>
@@ -99,6 +103,9 @@ pub struct Told {
     pub failing: u16,
     pub pairs: u32,
 }
+
+// Stays (plain): `told_of`, `one_more` and `none_fails` take bare counts, since not every caller has a `Told`; each keeps one step of a
+// round's answer where a clause states it.
 
 // What a round tells, put together.
 pub fn told_of(rounds: u16, failing: u16, pairs: u32) -> Told

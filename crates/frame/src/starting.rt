@@ -32,8 +32,8 @@ fn to_checks(edges: &[Edge], area: &mut [u16], q: usize, n: usize)
     requires edges { (x : ℕ) → x < length edges.now → column_at edges.now x < n }
     ensures { Filled q (n + n) (length edges.now) (λ x. block q (column_at edges.now x) area.old) area.old area.new }
 {
-    for e in 0..edges.len() {
-        copy_block(area, q, edges[e].column as usize, n + n + e);
+    for (e, edge) in edges.iter().enumerate() {
+        copy_block(area, q, edge.column as usize, n + n + e);
     }
 }
 
