@@ -1,7 +1,8 @@
 -- One more turn of a walk over words, edges or codes. Assumes nothing.
-use Rattle.std.proofs.Common.{◌≡◌, ℕ, zero, suc, pred, ◌+◌, ◌-◌, ◌*◌, ◌<◌, ◌≤◌, min, Bool, true, false, cond, ◌&&◌, ltb, leb, ◌≢◌, ◌⊎◌, List, length, get_or, take, drop, ◌++◌, set, sym, refl, ap, ◌∙◌, subst, ap₂, inl, inr, add-one, arith, get_or-set_other, get_or-set_same}
+use Rattle.std.proofs.Common.{◌≡◌, ℕ, zero, suc, pred, ◌+◌, ◌-◌, ◌*◌, ◌<◌, ◌≤◌, min, Bool, true, false, cond, ◌&&◌, ltb, leb, ◌≢◌, ◌⊎◌, List, [], ◌∷◌, length, get_or, take, drop, ◌++◌, set, sym, refl, ap, ◌∙◌, subst, ap₂, inl, inr, add-one, arith, get_or-set_other, get_or-set_same}
+use Rattle.std.specs.List.{list_all}
 use Rattle.std.proofs.Math.Nat.{suc-mul, add-mul}
-use Rattle.std.proofs.Math.Bool.{and_assoc}
+use Rattle.std.proofs.Math.Bool.{and_assoc, and_comm}
 use Rattle.std.proofs.lemmas.Nat.{mul-le}
 use Rattle.std.proofs.lemmas.List.Edits.{length-between}
 use Rattle.std.proofs.lemmas.List.{get_or-take, get_or-drop, places}
@@ -48,6 +49,20 @@ every_more m zero test = ap (λ k. every k test) (let z : m + 0 ≡ m = omega ar
 every_more m (suc q) test =
     ap (λ k. every k test) (let z : m + suc q ≡ suc (m + q) = omega arith in z)
     ∙ ap (λ b. test (m + q) && b) (every_more m q test) ∙ sym (and_assoc (test (m + q)) (every q (λ a. test (m + a))) (every m test))
+
+pub all_every : (test : ℕ → Bool) (v : List ℕ) → list_all test v ≡ every (length v) (λ a. test (get_or v a 0))
+unfolding every
+all_every test [] = refl
+all_every test (x ∷ xs) =
+    let n = length xs in
+    let f : ℕ → Bool = λ a. test (get_or (x ∷ xs) a 0) in
+    ap (λ b. test x && b) (all_every test xs) ∙ and_comm (test x) (every n (λ a. test (get_or xs a 0)))
+    ∙ ap₂ ◌&&◌ (every_same n n _ (λ a. f (1 + a)) refl (λ a l. ap f (let z : suc a ≡ 1 + a = omega arith in z))) (sym (and_true (test x)))
+    ∙ sym (every_more 1 n f) ∙ ap (λ k. every k f) (let z : 1 + n ≡ suc n = omega arith in z)
+  where
+    and_true : (b : Bool) → (b && true) ≡ b
+    and_true true = refl
+    and_true false = refl
 
 every_parts : (n q : ℕ) (test : ℕ → Bool) → every (n * q) test ≡ every n (λ c. every q (λ a. test (c * q + a)))
 unfolding every

@@ -33,8 +33,9 @@ pub fn body<F: Field, J: Joiner>(
         field,
         joiner,
         ceiling: header.ceiling,
+        scratch: from + edges.len(),
     };
-    let pairs = joins.rows(edges, area, to, from, from + edges.len(), header.rows);
+    let pairs = joins.rows(edges, area, to, from, header.rows);
     begin(area, q, n);
     sums(edges, entries, header.ceiling, area, q, n, from, n);
     costs(edges, header.ceiling, area, q, n, to, from, n);

@@ -5,7 +5,6 @@ ghost use Rattle.frame.specs.Row.{coefficient_at, row_vectors, RowDone};
 ghost use Rattle.tree.specs.Rows.{row_pairs};
 
 use crate::codes::inverted;
-use crate::spread::spread;
 use crate::step::{Joins, turn};
 use code::table::Edge;
 use field::Field;
@@ -13,23 +12,23 @@ use joiner::Joiner;
 
 impl<'a, F: Field, J: Joiner> Joins<'a, F, J> {
     // Writes the from-check costs of a row's edges, to the blocks from `from` on, out of their to-check costs in the blocks from `to`
-    // on, by way of the 36 blocks from s on.
-    pub fn row(&self, edges: &[Edge], area: &mut [u16], to: usize, from: usize, s: usize) -> u32
-        requires room { (s + 36 ≤ blocks (F.Field.meaning self.now.field.now).order area.old) × ((s ≤ 4096) × ((to + length edges.now ≤ s) × (from + length edges.now ≤ s))) }
+    // on, by way of the 36 scratch blocks.
+    pub fn row(&self, edges: &[Edge], area: &mut [u16], to: usize, from: usize) -> u32
+        requires room { (self.now.scratch + 36 ≤ blocks (F.Field.meaning self.now.field.now).order area.old) × ((to + length edges.now ≤ self.now.scratch) × (from + length edges.now ≤ self.now.scratch)) }
         requires edges { (2 ≤ length edges.now) × (length edges.now ≤ 16) }
         requires coefficients { (i : ℕ) → i < length edges.now → (0 < coefficient_at edges.now i) × (coefficient_at edges.now i < (F.Field.meaning self.now.field.now).order) }
         requires low { (i : ℕ) → i < length edges.now → Low self.now.ceiling (block (F.Field.meaning self.now.field.now).order (to + i) area.old) }
         ensures pairs { result ≡ row_pairs (J.Joiner.pairs self.now.joiner.now) (F.Field.meaning self.now.field.now) self.now.ceiling (row_vectors (F.Field.meaning self.now.field.now) (coefficient_at edges.now) to area.old) (length edges.now - 1) }
         ensures few { result ≤ 196608 }
-        ensures area { RowDone (F.Field.meaning self.now.field.now) (coefficient_at edges.now) to from s (length edges.now - 1) area.old area.new }
+        ensures area { RowDone (F.Field.meaning self.now.field.now) (coefficient_at edges.now) to from self.now.scratch (length edges.now - 1) area.old area.new }
     {
         let last = edges.len() - 1;
-        spread(self.field, edges, area, to, s);
+        self.spread(edges, area, to);
         let k = inverted(self.field, edges[last].coefficient);
-        turn(self.field, k, area, to + last, s + 16);
-        let backs = self.backward(area, s, last);
-        let forths = self.forward(area, s, last);
-        let arounds = self.around(edges, area, from, s);
+        turn(self.field, k, area, to + last, self.scratch + 16);
+        let backs = self.backward(area, last);
+        let forths = self.forward(area, last);
+        let arounds = self.around(edges, area, from);
         backs + forths + arounds
     }
 }

@@ -32,30 +32,22 @@ pub fn row_end(edges: &[Edge], first: usize, r: u16) -> usize
 
 impl<'a, F: Field, J: Joiner> Joins<'a, F, J> {
     // Writes the from-check costs of all edges, row by row.
-    pub fn rows(
-        &self,
-        edges: &[Edge],
-        area: &mut [u16],
-        to: usize,
-        from: usize,
-        s: usize,
-        m: u16,
-    ) -> u32
+    pub fn rows(&self, edges: &[Edge], area: &mut [u16], to: usize, from: usize, m: u16) -> u32
         requires count { m ≤ 128 }
-        requires room { (s + 36 ≤ blocks (F.Field.meaning self.now.field.now).order area.old) × ((s ≤ 4096) × ((to + length edges.now ≤ from) × (from + length edges.now ≤ s))) }
+        requires room { (self.now.scratch + 36 ≤ blocks (F.Field.meaning self.now.field.now).order area.old) × ((to + length edges.now ≤ from) × (from + length edges.now ≤ self.now.scratch)) }
         requires rising { (x y : ℕ) → x ≤ y → y < length edges.now → row_at edges.now x ≤ row_at edges.now y }
         requires rows { (x : ℕ) → x < length edges.now → row_at edges.now x < m }
         requires wide { (r : ℕ) → r < m → (starts edges.now r + 2 ≤ starts edges.now (suc r)) × (starts edges.now (suc r) ≤ starts edges.now r + 16) }
         requires coefficients { (i : ℕ) → i < length edges.now → (0 < coefficient_at edges.now i) × (coefficient_at edges.now i < (F.Field.meaning self.now.field.now).order) }
         requires low { (i : ℕ) → i < length edges.now → Low self.now.ceiling (block (F.Field.meaning self.now.field.now).order (to + i) area.old) }
         ensures pairs { result ≡ rows_pairs (J.Joiner.pairs self.now.joiner.now) (F.Field.meaning self.now.field.now) self.now.ceiling edges.now to area.old m }
-        ensures area { RowsTo (F.Field.meaning self.now.field.now) edges.now to from s m area.old area.new }
+        ensures area { RowsTo (F.Field.meaning self.now.field.now) edges.now to from self.now.scratch m area.old area.new }
     {
         let mut first = 0;
         let mut pairs = 0;
         for r in 0..m {
             let end = row_end(edges, first, r);
-            pairs += self.row(&edges[first..end], area, to + first, from + first, s);
+            pairs += self.row(&edges[first..end], area, to + first, from + first);
             first = end;
         }
         pairs

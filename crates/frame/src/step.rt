@@ -21,13 +21,15 @@ pub fn turn<F: Field>(field: &F, k: u8, area: &mut [u16], i: usize, j: usize)
     put_back(area, q, j, out);
 }
 
-// What the joins of a round have in common: the field, the joiner, and the ceiling that no cost exceeds.
+// What the joins of a round have in common: the field, the joiner, the ceiling that no cost exceeds, and where the 36 scratch
+// blocks begin.
 #[derive(Drop)]
 pub struct Joins<'a, F, J> {
     pub field: &'a F,
     pub joiner: &'a J,
     pub ceiling: u16,
-    ghost fits: { (1 ≤ ceiling) × (ceiling ≤ 1023) },
+    pub scratch: usize,
+    ghost fits: { (1 ≤ ceiling) × ((ceiling ≤ 1023) × (scratch ≤ 4096)) },
 }
 
 impl<'a, F: Field, J: Joiner> Joins<'a, F, J> {

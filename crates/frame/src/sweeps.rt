@@ -8,16 +8,17 @@ use field::Field;
 use joiner::Joiner;
 
 impl<'a, F: Field, J: Joiner> Joins<'a, F, J> {
-    // Joins the vectors in the blocks from s on, from the last one down to the second, into the blocks from s + 16 on.
-    pub fn backward(&self, area: &mut [u16], s: usize, last: usize) -> u32
-        requires room { (s + 36 ≤ blocks (F.Field.meaning self.now.field.now).order area.old) × (s ≤ 4096) }
+    // Joins the vectors in the scratch blocks, from the last one down to the second, into those from the 16th on.
+    pub fn backward(&self, area: &mut [u16], last: usize) -> u32
+        requires room { self.now.scratch + 36 ≤ blocks (F.Field.meaning self.now.field.now).order area.old }
         requires last { (1 ≤ last) × (last < 16) }
-        requires begun { block (F.Field.meaning self.now.field.now).order (s + 16) area.old ≡ block (F.Field.meaning self.now.field.now).order (s + last) area.old }
-        requires low { (i : ℕ) → i ≤ last → Low self.now.ceiling (block (F.Field.meaning self.now.field.now).order (s + i) area.old) }
-        ensures pairs { result ≡ back_pairs (J.Joiner.pairs self.now.joiner.now) (F.Field.meaning self.now.field.now) self.now.ceiling («from_on» (F.Field.meaning self.now.field.now).order s area.old) last (last - 1) }
+        requires begun { block (F.Field.meaning self.now.field.now).order (self.now.scratch + 16) area.old ≡ block (F.Field.meaning self.now.field.now).order (self.now.scratch + last) area.old }
+        requires low { (i : ℕ) → i ≤ last → Low self.now.ceiling (block (F.Field.meaning self.now.field.now).order (self.now.scratch + i) area.old) }
+        ensures pairs { result ≡ back_pairs (J.Joiner.pairs self.now.joiner.now) (F.Field.meaning self.now.field.now) self.now.ceiling («from_on» (F.Field.meaning self.now.field.now).order self.now.scratch area.old) last (last - 1) }
         ensures few { result ≤ 65536 }
-        ensures area { Filled (F.Field.meaning self.now.field.now).order (s + 16) last (back (F.Field.meaning self.now.field.now) («from_on» (F.Field.meaning self.now.field.now).order s area.old) last) area.old area.new }
+        ensures area { Filled (F.Field.meaning self.now.field.now).order (self.now.scratch + 16) last (back (F.Field.meaning self.now.field.now) («from_on» (F.Field.meaning self.now.field.now).order self.now.scratch area.old) last) area.old area.new }
     {
+        let s = self.scratch;
         let mut pairs = 0;
         for m in 0..last - 1 {
             pairs += self.step(area, s + last - 1 - m, s + 16 + m, s + 17 + m);
@@ -25,15 +26,16 @@ impl<'a, F: Field, J: Joiner> Joins<'a, F, J> {
         pairs
     }
 
-    // Joins the vectors in the blocks from s on, from the first one up to the last but one, in their place.
-    pub fn forward(&self, area: &mut [u16], s: usize, last: usize) -> u32
-        requires room { (s + 36 ≤ blocks (F.Field.meaning self.now.field.now).order area.old) × (s ≤ 4096) }
+    // Joins the vectors in the scratch blocks, from the first one up to the last but one, in their place.
+    pub fn forward(&self, area: &mut [u16], last: usize) -> u32
+        requires room { self.now.scratch + 36 ≤ blocks (F.Field.meaning self.now.field.now).order area.old }
         requires last { (1 ≤ last) × (last < 16) }
-        requires low { (i : ℕ) → i ≤ last → Low self.now.ceiling (block (F.Field.meaning self.now.field.now).order (s + i) area.old) }
-        ensures pairs { result ≡ forth_pairs (J.Joiner.pairs self.now.joiner.now) (F.Field.meaning self.now.field.now) self.now.ceiling («from_on» (F.Field.meaning self.now.field.now).order s area.old) (last - 1) }
+        requires low { (i : ℕ) → i ≤ last → Low self.now.ceiling (block (F.Field.meaning self.now.field.now).order (self.now.scratch + i) area.old) }
+        ensures pairs { result ≡ forth_pairs (J.Joiner.pairs self.now.joiner.now) (F.Field.meaning self.now.field.now) self.now.ceiling («from_on» (F.Field.meaning self.now.field.now).order self.now.scratch area.old) (last - 1) }
         ensures few { result ≤ 65536 }
-        ensures area { Filled (F.Field.meaning self.now.field.now).order s last (forth (F.Field.meaning self.now.field.now) («from_on» (F.Field.meaning self.now.field.now).order s area.old)) area.old area.new }
+        ensures area { Filled (F.Field.meaning self.now.field.now).order self.now.scratch last (forth (F.Field.meaning self.now.field.now) («from_on» (F.Field.meaning self.now.field.now).order self.now.scratch area.old)) area.old area.new }
     {
+        let s = self.scratch;
         let mut pairs = 0;
         for i in 0..last - 1 {
             pairs += self.step(area, s + i, s + i + 1, s + i + 1);

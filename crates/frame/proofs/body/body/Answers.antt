@@ -20,7 +20,7 @@ rows-pairs-requires g c =
     let N = c.args.header.columns in let W = length c.args.edges.now in
     record {
       count = f.rows_high;
-      room = (subst (λ q. N + N + W + W + 36 ≤ blocks q a0) (sym o) b, (omega (arith, f.columns_high, f.width_high), (omega arith, omega arith)));
+      room = (subst (λ q. N + N + W + W + 36 ≤ blocks q a0) (sym o) b, (omega arith, omega arith));
       rising = rows_rise K f;
       rows = f.row_below;
       wide = wide F L K o a0 R;

@@ -1,6 +1,8 @@
-use Rattle.std.proofs.Common.{◌∙◌}
-use Rattle.frame.proofs.Scans.{blocks_every}
+use Rattle.std.proofs.Common.{◌+◌, ◌-◌, ◌*◌, leb, take, drop, ◌∙◌}
+use Rattle.frame.proofs.Scans.{all_every, blocks_every}
 use Rattle.frame.proofs.within.blocks_within.Goals as goal
 
 pub returns : goal.returns
-returns c = c.vector_within.ensures ∙ blocks_every c.args.area.now c.args.q c.args.s c.args.n c.args.ceiling c.requires.room
+returns c =
+    let q = c.args.q in let s = c.args.s in let n = c.args.n in let area = c.args.area.now in let top = c.args.ceiling in
+    c.within.ensures ∙ all_every (λ x. leb x top) (take ((s + n) * q - s * q) (drop (s * q) area)) ∙ blocks_every area q s n top c.requires.room

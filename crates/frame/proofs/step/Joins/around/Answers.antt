@@ -14,12 +14,12 @@ loop-i-init g c = (filled_none _ _ _ _, refl, omega arith)
 pub around_one-pairs-requires : goal.around_one-pairs-requires
 around_one-pairs-requires g c =
     let t = g.F.Field.meaning c.args.self.now.field.now in
-    let top = c.args.self.now.ceiling in let s = c.args.s in let i = c.loop-i.i in
+    let top = c.args.self.now.ceiling in let s = c.args.self.now.scratch in let i = c.loop-i.i in
     let before = c.args.area.now in let area = c.loop-i.area in
     let n : s + 36 ≤ blocks t.order area = same_blocks t.order before area c.loop-i.auto.area (s + 36) c.requires.room.0 in
     let kept = c.loop-i.invariant.0.kept in
     record {
-      room = (n, (c.requires.room.1.0, omega arith));
+      room = (n, omega arith);
       last = (omega arith, (omega arith, omega arith));
       h = c.requires.edges.1.1 i (omega arith);
       low = λ x l. let w = c.requires.low x (omega arith) in
@@ -38,7 +38,7 @@ pub loop-i-preserved : goal.loop-i-preserved
 unfolding around_pairs
 loop-i-preserved g c =
     let t = g.F.Field.meaning c.args.self.now.field.now in let J = g.J.Joiner.pairs c.args.self.now.joiner.now in
-    let top = c.args.self.now.ceiling in let s = c.args.s in let from = c.args.from in let i = c.loop-i.i in
+    let top = c.args.self.now.ceiling in let s = c.args.self.now.scratch in let from = c.args.from in let i = c.loop-i.i in
     let h = coefficient_at c.args.edges.now in let last = length c.args.edges.now - 1 in
     let before = c.args.area.now in let area = c.loop-i.area in
     let q : t.order ≤ 64 = (g.met.F.Field.lawful c.args.self.now.field.now).high in

@@ -6,6 +6,6 @@ use Rattle.frame.proofs.step.Joins.around.Given as goal
 
 abbrev pub invariant-loop-i : goal.invariant-loop-i
 invariant-loop-i g l =
-    Filled (g.F.Field.meaning l.self.field.now).order l.from l.i (read_at (g.F.Field.meaning l.self.field.now) (coefficient_at l.edges) (around_at (g.F.Field.meaning l.self.field.now) (from_on (g.F.Field.meaning l.self.field.now).order l.s l.initial.area) (from_on (g.F.Field.meaning l.self.field.now).order (l.s + 16) l.initial.area) (length l.edges - 1))) l.initial.area l.area
-    × (l.pairs ≡ around_pairs (g.J.Joiner.pairs l.self.joiner.now) (g.F.Field.meaning l.self.field.now) l.self.ceiling (from_on (g.F.Field.meaning l.self.field.now).order l.s l.initial.area) (from_on (g.F.Field.meaning l.self.field.now).order (l.s + 16) l.initial.area) (length l.edges - 1) l.i)
+    Filled (g.F.Field.meaning l.self.field.now).order l.from l.i (read_at (g.F.Field.meaning l.self.field.now) (coefficient_at l.edges) (around_at (g.F.Field.meaning l.self.field.now) (from_on (g.F.Field.meaning l.self.field.now).order l.self.scratch l.initial.area) (from_on (g.F.Field.meaning l.self.field.now).order (l.self.scratch + 16) l.initial.area) (length l.edges - 1))) l.initial.area l.area
+    × (l.pairs ≡ around_pairs (g.J.Joiner.pairs l.self.joiner.now) (g.F.Field.meaning l.self.field.now) l.self.ceiling (from_on (g.F.Field.meaning l.self.field.now).order l.self.scratch l.initial.area) (from_on (g.F.Field.meaning l.self.field.now).order (l.self.scratch + 16) l.initial.area) (length l.edges - 1) l.i)
     × (l.pairs ≤ 4096 * l.i)

@@ -9,7 +9,7 @@ use Rattle.frame.proofs.step.Joins.around_one.Goals as goal
 pub returns-then-i-eq0 : goal.returns-then-i-eq0
 returns-then-i-eq0 g c =
     let t = g.F.Field.meaning c.args.self.now.field.now in let J = g.J.Joiner.pairs c.args.self.now.joiner.now in
-    let top = c.args.self.now.ceiling in let s = c.args.s in let last = c.args.last in let i = c.args.i in let area = c.args.area.now in
+    let top = c.args.self.now.ceiling in let s = c.args.self.now.scratch in let last = c.args.last in let i = c.args.i in let area = c.args.area.now in
     let F = from_on t.order s area in let B = from_on t.order (s + 16) area in
     let W = turned_wrote t c.negated-o.result (s + 15 + last) c.args.k area c.turn.new.area (omega arith) c.turn.ensures in
     let z : s + 15 + last ≡ s + 16 + (last - 1) = omega arith in
@@ -21,7 +21,7 @@ returns-then-i-eq0 g c =
 pub returns-then-i-last : goal.returns-then-i-last
 returns-then-i-last g c =
     let t = g.F.Field.meaning c.args.self.now.field.now in let J = g.J.Joiner.pairs c.args.self.now.joiner.now in
-    let top = c.args.self.now.ceiling in let s = c.args.s in let last = c.args.last in let i = c.args.i in let area = c.args.area.now in
+    let top = c.args.self.now.ceiling in let s = c.args.self.now.scratch in let last = c.args.last in let i = c.args.i in let area = c.args.area.now in
     let F = from_on t.order s area in let B = from_on t.order (s + 16) area in
     let W = turned_wrote t c.negated-o.result (s + last - 1) c.args.k area c.turn-then-i-last.new.area (omega arith) c.turn-then-i-last.ensures in
     let z : s + last - 1 ≡ s + (last - 1) = omega arith in
@@ -33,7 +33,7 @@ returns-then-i-last g c =
 pub step-pairs-requires : goal.step-pairs-requires
 step-pairs-requires g c =
     let t = g.F.Field.meaning c.args.self.now.field.now in
-    let top = c.args.self.now.ceiling in let s = c.args.s in let last = c.args.last in let i = c.args.i in let area = c.args.area.now in
+    let top = c.args.self.now.ceiling in let s = c.args.self.now.scratch in let last = c.args.last in let i = c.args.i in let area = c.args.area.now in
     let x : s + i - 1 ≡ s + (i - 1) = omega arith in
     let y : s + 15 + last - i ≡ s + 16 + (last - 1 - i) = omega arith in
     record {
@@ -47,7 +47,7 @@ step-pairs-requires g c =
 pub returns : goal.returns
 returns g c =
     let t = g.F.Field.meaning c.args.self.now.field.now in let J = g.J.Joiner.pairs c.args.self.now.joiner.now in
-    let top = c.args.self.now.ceiling in let s = c.args.s in let last = c.args.last in let i = c.args.i in let k = c.args.k in let area = c.args.area.now in
+    let top = c.args.self.now.ceiling in let s = c.args.self.now.scratch in let last = c.args.last in let i = c.args.i in let k = c.args.k in let area = c.args.area.now in
     let F = from_on t.order s area in let B = from_on t.order (s + 16) area in
     let x : s + i - 1 ≡ s + (i - 1) = omega arith in
     let y : s + 15 + last - i ≡ s + 16 + (last - 1 - i) = omega arith in

@@ -13,10 +13,10 @@ pub step-pairs-requires : goal.step-pairs-requires
 step-pairs-requires g c =
     let t = g.F.Field.meaning c.args.self.now.field.now in
     let L = g.met.F.Field.lawful c.args.self.now.field.now in
-    let top = c.args.self.now.ceiling in let s = c.args.s in let last = c.args.last in let m = c.loop-m.m in
+    let top = c.args.self.now.ceiling in let s = c.args.self.now.scratch in let last = c.args.last in let m = c.loop-m.m in
     let before = c.args.area.now in let area = c.loop-m.area in
     let P = from_on t.order s before in
-    let n : s + 36 ≤ blocks t.order area = same_blocks t.order before area c.loop-m.auto.area (s + 36) c.requires.room.0 in
+    let n : s + 36 ≤ blocks t.order area = same_blocks t.order before area c.loop-m.auto.area (s + 36) c.requires.room in
     let l = at_kept t.order (s + 16) (back t P last) before (m + 1) (s + last - 1 - m) (s + (last - suc m)) area c.loop-m.invariant.0 (omega arith) (inl (omega arith)) in
     let r = at_there t.order (s + 16) (back t P last) before (m + 1) (s + 16 + m) m area c.loop-m.invariant.0 refl (omega arith) in
     record {
@@ -32,10 +32,10 @@ loop-m-preserved g c =
     let t = g.F.Field.meaning c.args.self.now.field.now in
     let L = g.met.F.Field.lawful c.args.self.now.field.now in
     let J = g.J.Joiner.pairs c.args.self.now.joiner.now in
-    let top = c.args.self.now.ceiling in let s = c.args.s in let last = c.args.last in let m = c.loop-m.m in
+    let top = c.args.self.now.ceiling in let s = c.args.self.now.scratch in let last = c.args.last in let m = c.loop-m.m in
     let before = c.args.area.now in let area = c.loop-m.area in
     let P = from_on t.order s before in
-    let n : s + 36 ≤ blocks t.order area = same_blocks t.order before area c.loop-m.auto.area (s + 36) c.requires.room.0 in
+    let n : s + 36 ≤ blocks t.order area = same_blocks t.order before area c.loop-m.auto.area (s + 36) c.requires.room in
     let l = at_kept t.order (s + 16) (back t P last) before (m + 1) (s + last - 1 - m) (s + (last - suc m)) area c.loop-m.invariant.0 (omega arith) (inl (omega arith)) in
     let r = at_there t.order (s + 16) (back t P last) before (m + 1) (s + 16 + m) m area c.loop-m.invariant.0 refl (omega arith) in
     let W = stepped_wrote t (s + last - 1 - m) (s + 16 + m) (s + 17 + m) area c.step-pairs.new.area (omega arith) c.step-pairs.ensures.area in (

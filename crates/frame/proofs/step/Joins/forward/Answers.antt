@@ -8,7 +8,7 @@ use Rattle.frame.proofs.step.Joins.forward.Goals as goal
 pub loop-i-init : goal.loop-i-init
 unfolding forth forth_pairs
 loop-i-init g c =
-    let t = g.F.Field.meaning c.args.self.now.field.now in let s = c.args.s in
+    let t = g.F.Field.meaning c.args.self.now.field.now in let s = c.args.self.now.scratch in
     let L = g.met.F.Field.lawful c.args.self.now.field.now in
     let z : s ≡ s + 0 = omega arith in
     (filled_one t.order s _ c.args.area.now (ap (λ y. block t.order y c.args.area.now) z), refl, omega arith)
@@ -17,10 +17,10 @@ pub step-pairs-requires : goal.step-pairs-requires
 step-pairs-requires g c =
     let t = g.F.Field.meaning c.args.self.now.field.now in
     let L = g.met.F.Field.lawful c.args.self.now.field.now in
-    let top = c.args.self.now.ceiling in let s = c.args.s in let last = c.args.last in let i = c.loop-i.i in
+    let top = c.args.self.now.ceiling in let s = c.args.self.now.scratch in let last = c.args.last in let i = c.loop-i.i in
     let before = c.args.area.now in let area = c.loop-i.area in
     let P = from_on t.order s before in
-    let n : s + 36 ≤ blocks t.order area = same_blocks t.order before area c.loop-i.auto.area (s + 36) c.requires.room.0 in
+    let n : s + 36 ≤ blocks t.order area = same_blocks t.order before area c.loop-i.auto.area (s + 36) c.requires.room in
     let l = at_there t.order s (forth t P) before (i + 1) (s + i) i area c.loop-i.invariant.0 refl (omega arith) in
     let r = at_kept t.order s (forth t P) before (i + 1) (s + i + 1) (s + suc i) area c.loop-i.invariant.0 (omega arith) (inr (omega arith)) in
     record {
@@ -36,10 +36,10 @@ loop-i-preserved g c =
     let t = g.F.Field.meaning c.args.self.now.field.now in
     let L = g.met.F.Field.lawful c.args.self.now.field.now in
     let J = g.J.Joiner.pairs c.args.self.now.joiner.now in
-    let top = c.args.self.now.ceiling in let s = c.args.s in let last = c.args.last in let i = c.loop-i.i in
+    let top = c.args.self.now.ceiling in let s = c.args.self.now.scratch in let last = c.args.last in let i = c.loop-i.i in
     let before = c.args.area.now in let area = c.loop-i.area in
     let P = from_on t.order s before in
-    let n : s + 36 ≤ blocks t.order area = same_blocks t.order before area c.loop-i.auto.area (s + 36) c.requires.room.0 in
+    let n : s + 36 ≤ blocks t.order area = same_blocks t.order before area c.loop-i.auto.area (s + 36) c.requires.room in
     let l = at_there t.order s (forth t P) before (i + 1) (s + i) i area c.loop-i.invariant.0 refl (omega arith) in
     let r = at_kept t.order s (forth t P) before (i + 1) (s + i + 1) (s + suc i) area c.loop-i.invariant.0 (omega arith) (inr (omega arith)) in
     let W = stepped_wrote t (s + i) (s + i + 1) (s + i + 1) area c.step-pairs.new.area (omega arith) c.step-pairs.ensures.area in (

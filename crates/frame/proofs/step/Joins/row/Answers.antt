@@ -8,13 +8,13 @@ use Rattle.frame.proofs.step.Joins.row.Goals as goal
 pub backward-backs-requires : goal.backward-backs-requires
 backward-backs-requires g c =
     let t = g.F.Field.meaning c.args.self.now.field.now in let L = g.met.F.Field.lawful c.args.self.now.field.now in let J = g.J.Joiner.pairs c.args.self.now.joiner.now in
-    let top = c.args.self.now.ceiling in let s = c.args.s in let to = c.args.to in let d = length c.args.edges.now in let last = length c.args.edges.now - 1 in
+    let top = c.args.self.now.ceiling in let s = c.args.self.now.scratch in let to = c.args.to in let d = length c.args.edges.now in let last = length c.args.edges.now - 1 in
     let h = coefficient_at c.args.edges.now in let a0 = c.args.area.now in let a1 = c.spread.new.area in
     let n : s + 36 ≤ blocks t.order a1 = same_blocks t.order a0 a1 c.spread.auto.area (s + 36) c.requires.room.0 in
     let W = turned_wrote t c.inverted-k.result (to + last) (s + 16) a1 c.turn.new.area (omega arith) c.turn.ensures in
     let count : d ≡ suc last = omega arith in
     record {
-      room = (same_blocks t.order a0 c.turn.new.area (c.turn.auto.area ∙ c.spread.auto.area) (s + 36) c.requires.room.0, omega arith);
+      room = same_blocks t.order a0 c.turn.new.area (c.turn.auto.area ∙ c.spread.auto.area) (s + 36) c.requires.room.0;
       last = (omega arith, omega arith);
       begun = begun J t L top h to c.args.from s d last a0 count (omega arith) (omega arith) (omega arith) (omega arith) c.requires.low a1 c.turn.new.area c.inverted-k.result c.spread.ensures W c.inverted-k.ensures.is;
       low = low_spread J t L top h to c.args.from s d last a0 count (omega arith) (omega arith) (omega arith) (omega arith) c.requires.low a1 c.turn.new.area c.inverted-k.result c.spread.ensures W c.inverted-k.ensures.is;
@@ -23,13 +23,13 @@ backward-backs-requires g c =
 pub forward-forths-requires : goal.forward-forths-requires
 forward-forths-requires g c =
     let t = g.F.Field.meaning c.args.self.now.field.now in let L = g.met.F.Field.lawful c.args.self.now.field.now in let J = g.J.Joiner.pairs c.args.self.now.joiner.now in
-    let top = c.args.self.now.ceiling in let s = c.args.s in let to = c.args.to in let d = length c.args.edges.now in let last = length c.args.edges.now - 1 in
+    let top = c.args.self.now.ceiling in let s = c.args.self.now.scratch in let to = c.args.to in let d = length c.args.edges.now in let last = length c.args.edges.now - 1 in
     let h = coefficient_at c.args.edges.now in let a0 = c.args.area.now in let a1 = c.spread.new.area in let a2 = c.turn.new.area in let a3 = c.backward-backs.new.area in
     let n : s + 36 ≤ blocks t.order a1 = same_blocks t.order a0 a1 c.spread.auto.area (s + 36) c.requires.room.0 in
     let W = turned_wrote t c.inverted-k.result (to + last) (s + 16) a1 a2 (omega arith) c.turn.ensures in
     let count : d ≡ suc last = omega arith in
     record {
-      room = (same_blocks t.order a0 a3 (c.backward-backs.auto.area ∙ c.turn.auto.area ∙ c.spread.auto.area) (s + 36) c.requires.room.0, omega arith);
+      room = same_blocks t.order a0 a3 (c.backward-backs.auto.area ∙ c.turn.auto.area ∙ c.spread.auto.area) (s + 36) c.requires.room.0;
       last = (omega arith, omega arith);
       low = low_kept J t L top h to c.args.from s d last a0 count (omega arith) (omega arith) (omega arith) (omega arith) c.requires.low a1 a2 c.inverted-k.result c.spread.ensures W c.inverted-k.ensures.is a3 c.backward-backs.ensures.area;
     }
@@ -37,13 +37,13 @@ forward-forths-requires g c =
 pub around-arounds-requires : goal.around-arounds-requires
 around-arounds-requires g c =
     let t = g.F.Field.meaning c.args.self.now.field.now in let L = g.met.F.Field.lawful c.args.self.now.field.now in let J = g.J.Joiner.pairs c.args.self.now.joiner.now in
-    let top = c.args.self.now.ceiling in let s = c.args.s in let to = c.args.to in let d = length c.args.edges.now in let last = length c.args.edges.now - 1 in
+    let top = c.args.self.now.ceiling in let s = c.args.self.now.scratch in let to = c.args.to in let d = length c.args.edges.now in let last = length c.args.edges.now - 1 in
     let h = coefficient_at c.args.edges.now in let a0 = c.args.area.now in let a1 = c.spread.new.area in let a2 = c.turn.new.area in let a3 = c.backward-backs.new.area in let a4 = c.forward-forths.new.area in
     let n : s + 36 ≤ blocks t.order a1 = same_blocks t.order a0 a1 c.spread.auto.area (s + 36) c.requires.room.0 in
     let W = turned_wrote t c.inverted-k.result (to + last) (s + 16) a1 a2 (omega arith) c.turn.ensures in
     let count : d ≡ suc last = omega arith in
     record {
-      room = (same_blocks t.order a0 a4 (c.forward-forths.auto.area ∙ c.backward-backs.auto.area ∙ c.turn.auto.area ∙ c.spread.auto.area) (s + 36) c.requires.room.0, (omega arith, omega arith));
+      room = (same_blocks t.order a0 a4 (c.forward-forths.auto.area ∙ c.backward-backs.auto.area ∙ c.turn.auto.area ∙ c.spread.auto.area) (s + 36) c.requires.room.0, omega arith);
       edges = (omega arith, (omega arith, λ i l. (c.requires.coefficients i l).1));
       low = low_around J t L top h to c.args.from s d last a0 count (omega arith) (omega arith) (omega arith) (omega arith) c.requires.low a1 a2 c.inverted-k.result c.spread.ensures W c.inverted-k.ensures.is a3 c.backward-backs.ensures.area a4 c.forward-forths.ensures.area;
     }
@@ -51,7 +51,7 @@ around-arounds-requires g c =
 pub returns : goal.returns
 returns g c =
     let t = g.F.Field.meaning c.args.self.now.field.now in let L = g.met.F.Field.lawful c.args.self.now.field.now in let J = g.J.Joiner.pairs c.args.self.now.joiner.now in
-    let top = c.args.self.now.ceiling in let s = c.args.s in let to = c.args.to in let d = length c.args.edges.now in let last = length c.args.edges.now - 1 in
+    let top = c.args.self.now.ceiling in let s = c.args.self.now.scratch in let to = c.args.to in let d = length c.args.edges.now in let last = length c.args.edges.now - 1 in
     let h = coefficient_at c.args.edges.now in let a0 = c.args.area.now in let a1 = c.spread.new.area in let a2 = c.turn.new.area in let a3 = c.backward-backs.new.area in let a4 = c.forward-forths.new.area in
     let n : s + 36 ≤ blocks t.order a1 = same_blocks t.order a0 a1 c.spread.auto.area (s + 36) c.requires.room.0 in
     let W = turned_wrote t c.inverted-k.result (to + last) (s + 16) a1 a2 (omega arith) c.turn.ensures in

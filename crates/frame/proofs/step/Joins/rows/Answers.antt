@@ -15,7 +15,7 @@ loop-r-init g c = (rows_none _ _ _ _ _ _, cut_none _, refl, omega arith)
 pub row-pairs-requires : goal.row-pairs-requires
 row-pairs-requires g c =
     let t = g.F.Field.meaning c.args.self.now.field.now in
-    let top = c.args.self.now.ceiling in let s = c.args.s in let to = c.args.to in let from = c.args.from in
+    let top = c.args.self.now.ceiling in let s = c.args.self.now.scratch in let to = c.args.to in let from = c.args.from in
     let E = c.args.edges.now in let r = c.loop-r.r in let first = c.loop-r.first in let end = c.row_end-end.result in
     let before = c.args.area.now in let area = c.loop-r.area in
     let D : Cut E (r + 1) end = cut_more E r first end c.requires.rising c.loop-r.invariant.1 c.row_end-end.ensures.within.0 c.row_end-end.ensures.within.1 c.row_end-end.ensures.same c.row_end-end.ensures.next in
@@ -25,7 +25,7 @@ row-pairs-requires g c =
     let hi : end ≤ length E = c.row_end-end.ensures.within.1 in
     let len : length (take (end - first) (drop first E)) ≡ end - first = part_length E first end hi in
     record {
-      room = (same_blocks t.order before area c.loop-r.auto.area (s + 36) c.requires.room.0, (omega arith, (omega arith, omega arith)));
+      room = (same_blocks t.order before area c.loop-r.auto.area (s + 36) c.requires.room.0, (omega arith, omega arith));
       edges = (omega (arith, w.0), omega (arith, w.1));
       coefficients = λ i l.
           let k : coefficient_at (take (end - first) (drop first E)) i ≡ coefficient_at E (first + i) = part_coefficient E first end i (omega arith) in
@@ -38,7 +38,7 @@ row-pairs-requires g c =
 pub loop-r-preserved : goal.loop-r-preserved
 loop-r-preserved g c =
     let t = g.F.Field.meaning c.args.self.now.field.now in
-    let top = c.args.self.now.ceiling in let s = c.args.s in let to = c.args.to in let from = c.args.from in
+    let top = c.args.self.now.ceiling in let s = c.args.self.now.scratch in let to = c.args.to in let from = c.args.from in
     let E = c.args.edges.now in let r = c.loop-r.r in let first = c.loop-r.first in let end = c.row_end-end.result in
     let before = c.args.area.now in let area = c.loop-r.area in
     let D : Cut E (r + 1) end = cut_more E r first end c.requires.rising c.loop-r.invariant.1 c.row_end-end.ensures.within.0 c.row_end-end.ensures.within.1 c.row_end-end.ensures.same c.row_end-end.ensures.next in

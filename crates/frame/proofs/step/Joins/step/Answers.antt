@@ -24,7 +24,7 @@ unreachable-requires g c =
     let long : length (take (c.order-q.result - 0) (replicate {A = ℕ} 64 0)) ≡ t.order = front_long c.order-q.result (room_at _ _ _ _ c.order-q.ensures (g.met.F.Field.lawful c.args.self.now.field.now).high c.requires.k).0 ∙ c.order-q.ensures in
     let l = front_is _ _ c.args.i c.copied-left.result area c.order-q.ensures c.copied-left.ensures in
     let r = front_is _ _ c.args.j c.copied-right.result area c.order-q.ensures c.copied-right.ensures in
-    not_refused _ _ _ (clear t.order c.args.self.now.ceiling c.args.i c.args.j _ area _ _ l r long c.requires.i c.requires.j c.args.self.now.fits c.requires.left c.requires.right) c.in-Err.ensures.answer
+    not_refused _ _ _ (clear t.order c.args.self.now.ceiling c.args.i c.args.j _ area _ _ l r long c.requires.i c.requires.j (c.args.self.now.fits.0, c.args.self.now.fits.1.0) c.requires.left c.requires.right) c.in-Err.ensures.answer
 
 pub returns : goal.returns
 returns g c =
@@ -35,7 +35,7 @@ returns g c =
     let long : length (take (c.order-q.result - 0) (replicate {A = ℕ} 64 0)) ≡ t.order = front_long c.order-q.result (room_at _ _ _ _ c.order-q.ensures (g.met.F.Field.lawful c.args.self.now.field.now).high c.requires.k).0 ∙ c.order-q.ensures in
     let l : take (q - 0) c.copied-left.result ≡ block t.order c.args.i area = front_is _ _ c.args.i c.copied-left.result area o c.copied-left.ensures in
     let r : take (q - 0) c.copied-right.result ≡ block t.order c.args.j area = front_is _ _ c.args.j c.copied-right.result area o c.copied-right.ensures in
-    let free = clear t.order c.args.self.now.ceiling c.args.i c.args.j (length (take (q - 0) (replicate {A = ℕ} 64 0))) area _ _ l r long c.requires.i c.requires.j c.args.self.now.fits c.requires.left c.requires.right in
+    let free = clear t.order c.args.self.now.ceiling c.args.i c.args.j (length (take (q - 0) (replicate {A = ℕ} 64 0))) area _ _ l r long c.requires.i c.requires.j (c.args.self.now.fits.0, c.args.self.now.fits.1.0) c.requires.left c.requires.right in
     let told = told_is _ _ _ free c.in-Ok.ensures.answer in
     let out : c.join.new.joined ≡ joined t (take (q - 0) c.copied-left.result) (take (q - 0) c.copied-right.result) = c.in-Ok.ensures.joined ∙ ap (λ x. or_old x (joined_of t (take (q - 0) c.copied-left.result) (take (q - 0) c.copied-right.result)) (take (q - 0) (replicate {A = ℕ} 64 0))) free ∙ joined_same t _ _ (g.met.F.Field.lawful c.args.self.now.field.now) in
     let p = c.put_back.ensures in
