@@ -1,5 +1,6 @@
 ghost use Rattle.std.specs.Prelude.{◌≡◌};
 ghost use Rattle.anyfield.specs.Fields.{made_of, tables_of, told, tower_answer};
+ghost use Rattle.anyfield.specs.Laws.{any_lawful};
 
 use binary::Binary;
 use field::{Field, FieldRefusal};
@@ -14,21 +15,13 @@ pub enum AnyField {
     Tower(Tower),
 }
 
-fn tower_on<F: Field>(base: &F, u: u8, v: u8) -> Result<AnyField, FieldRefusal>
-    ensures { told result ≡ tower_answer (F.Field.meaning base.now) u v }
-{
-    let mut tower = Tower::of_four();
-    match make_tower(base, u, v, &mut tower) {
-        Ok(()) => Ok(AnyField::Tower(tower)),
-        Err(refusal) => Err(refusal),
-    }
-}
+// Each answer is that of the field inside.
+impl Field for AnyField {
+    ghost meaning = { λ f. tables_of (made_of f) };
 
-impl AnyField {
-    // The order q.
-    pub fn order(&self) -> u8
-        ensures { result ≡ (tables_of (made_of self.now)).order }
-    {
+    ghost lawful = { λ f. any_lawful f };
+
+    fn order(&self) -> u8 {
         match self {
             AnyField::Prime(field) => field.order(),
             AnyField::Binary(field) => field.order(),
@@ -36,14 +29,46 @@ impl AnyField {
         }
     }
 
+    fn sum(&self, a: u8, b: u8) -> Option<u8> {
+        match self {
+            AnyField::Prime(field) => field.sum(a, b),
+            AnyField::Binary(field) => field.sum(a, b),
+            AnyField::Tower(field) => field.sum(a, b),
+        }
+    }
+
+    fn product(&self, a: u8, b: u8) -> Option<u8> {
+        match self {
+            AnyField::Prime(field) => field.product(a, b),
+            AnyField::Binary(field) => field.product(a, b),
+            AnyField::Tower(field) => field.product(a, b),
+        }
+    }
+
+    fn opposite(&self, a: u8) -> Option<u8> {
+        match self {
+            AnyField::Prime(field) => field.opposite(a),
+            AnyField::Binary(field) => field.opposite(a),
+            AnyField::Tower(field) => field.opposite(a),
+        }
+    }
+
+    fn inverse(&self, a: u8) -> Option<u8> {
+        match self {
+            AnyField::Prime(field) => field.inverse(a),
+            AnyField::Binary(field) => field.inverse(a),
+            AnyField::Tower(field) => field.inverse(a),
+        }
+    }
+}
+
+impl AnyField {
     // The tower on this field where y·y = u·y + v, with `make_tower`'s refusals.
     pub fn raised(&self, u: u8, v: u8) -> Result<AnyField, FieldRefusal>
         ensures { told result ≡ tower_answer (tables_of (made_of self.now)) u v }
     {
-        match self {
-            AnyField::Prime(field) => tower_on(field, u, v),
-            AnyField::Binary(field) => tower_on(field, u, v),
-            AnyField::Tower(field) => tower_on(field, u, v),
-        }
+        let mut tower = Tower::of_four();
+        make_tower(self, u, v, &mut tower)?;
+        Ok(AnyField::Tower(tower))
     }
 }

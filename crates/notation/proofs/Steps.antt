@@ -1,25 +1,46 @@
 -- One step over the pieces of a text.
-use Rattle.std.proofs.Common.{◌≡◌, ℕ, ◌+◌, ◌-◌, ◌<◌, ◌≤◌, Bool, true, false, List, [], ◌∷◌, length, take, drop, sym, refl, ap, ◌∙◌, arith}
+use Rattle.std.proofs.Common.{◌≡◌, ◌==◌, ℕ, ◌+◌, ◌-◌, ◌<◌, ◌≤◌, Bool, true, false, cond, eqb, ltb, Some, None, List, [], ◌∷◌, length, get_or, take, drop, sym, refl, ap, ◌∙◌, arith}
+use Rattle.std.specs.List.{position, position_or_len}
+use Rattle.std.proofs.Math.Seq.{take-length}
+use Rattle.std.proofs.lemmas.Bool.{ltb-true, ltb-false}
 use Rattle.std.proofs.lemmas.List.{take_rest}
-use Rattle.sheet.specs.Pieces.{split, first}
-use Rattle.sheet.proofs.Splits.{front, split_some, split_rest, split_last}
-use Rattle.notation.specs.Pieces.{to_come}
+use Rattle.std.proofs.lemmas.List.Recursion.{is_position_or_len}
+use Rattle.sheet.specs.Pieces.{cut, split, first}
+use Rattle.sheet.proofs.Splits.{first_is, first_within, split_some, split_rest, split_last}
 
--- there is a cut: the rest has pieces
-pub step_on : (e : Bool) (c n : ℕ) (bs : List ℕ) → e ≡ false → n ≡ length (first c bs) → n < length bs → to_come e c bs ≡ take (n - 0) bs ∷ to_come e c (take (length bs - (n + 1)) (drop (n + 1) bs))
-step_on true c n bs z e h = absurd (let o : ◌≡◌ {A = ℕ} 0 1 = cc in omega arith)
-step_on false c n bs z e h =
-    let s : length (first c bs) < length bs = omega arith in
-    let k : length (first c bs) + 1 ≡ n + 1 = omega arith in
-    split_some c bs
-    ∙ ap (λ p. p ∷ drop 1 (split c bs)) (sym (front c n bs bs refl e))
-    ∙ ap (λ ps. take (n - 0) bs ∷ ps) (split_rest c bs s ∙ ap (λ m. split c (drop m bs)) k ∙ ap (split c) (sym (take_rest bs (n + 1))))
+first_cut : (t : Bool) (b : ℕ) (ps : List (List ℕ)) → length (get_or (cut t b ps) 0 []) ≡ cond t 0 (1 + length (get_or ps 0 []))
+first_cut true b ps = refl
+first_cut false b [] = refl
+first_cut false b (p ∷ ps) = omega arith
 
--- there is none: this is the last piece
-pub step_end : (e : Bool) (c n : ℕ) (bs : List ℕ) → e ≡ false → n ≡ length (first c bs) → length bs ≤ n → to_come e c bs ≡ take (n - 0) bs ∷ []
-step_end true c n bs z e h = absurd (let o : ◌≡◌ {A = ℕ} 0 1 = cc in omega arith)
-step_end false c n bs z e h =
-    let s : length bs ≤ length (first c bs) = omega arith in
+-- the first piece ends where the first stop stands
+first_ends : (c : ℕ) (bs : List ℕ) → length (first c bs) ≡ position_or_len (λ b. b == c) bs
+unfolding split
+first_ends c = is_position_or_len (λ bs. length (first c bs)) (λ b. b == c) refl (λ b bs. first_cut (eqb b c) b (split c bs))
+
+placed : (t : Bool) (l n : ℕ) → cond t (Some l) None ≡ Some n → (t ≡ true) × (l ≡ n)
+placed true l n e = (refl, cc)
+placed false l n e = absurd (let z : ◌≡◌ {A = ℕ} 0 1 = cc in omega arith)
+
+unplaced : (t : Bool) (l : ℕ) → cond t (Some l) None ≡ None → t ≡ false
+unplaced true l e = absurd (let z : ◌≡◌ {A = ℕ} 0 1 = cc in omega arith)
+unplaced false l e = refl
+
+-- there is a stop: the rest has pieces
+pub step_on : (c n : ℕ) (bs : List ℕ) → Some n ≡ position (λ b. b == c) bs → split c bs ≡ take n bs ∷ split c (take (length bs - (n + 1)) (drop (n + 1) bs))
+step_on c n bs e =
+    let at = placed (ltb (position_or_len (λ b. b == c) bs) (length bs)) (position_or_len (λ b. b == c) bs) n (sym e) in
+    let f : length (first c bs) ≡ n = first_ends c bs ∙ at.1 in
+    let s : length (first c bs) < length bs = omega (arith, f, at.1, ltb-true _ _ at.0) in
     split_some c bs
-    ∙ ap (λ p. p ∷ drop 1 (split c bs)) (sym (front c n bs bs refl e))
-    ∙ ap (λ ps. take (n - 0) bs ∷ ps) (split_last c bs s)
+    ∙ ap (λ p. p ∷ drop 1 (split c bs)) (sym (first_is c bs) ∙ ap (λ m. take m bs) f)
+    ∙ ap (λ ps. take n bs ∷ ps) (split_rest c bs s ∙ ap (λ m. split c (drop (m + 1) bs)) f ∙ ap (split c) (sym (take_rest bs (n + 1))))
+
+-- there is none: the whole rest is the last piece
+pub step_end : (c : ℕ) (bs : List ℕ) → None ≡ position (λ b. b == c) bs → split c bs ≡ bs ∷ []
+step_end c bs e =
+    let s : length bs ≤ length (first c bs) = omega (arith, first_ends c bs, ltb-false _ _ (unplaced (ltb (position_or_len (λ b. b == c) bs) (length bs)) (position_or_len (λ b. b == c) bs) (sym e))) in
+    let all : length (first c bs) ≡ length bs = omega (arith, s, first_within c bs) in
+    split_some c bs
+    ∙ ap (λ p. p ∷ drop 1 (split c bs)) (sym (first_is c bs) ∙ ap (λ m. take m bs) all ∙ take-length bs)
+    ∙ ap (λ ps. bs ∷ ps) (split_last c bs s)

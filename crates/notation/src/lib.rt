@@ -1,13 +1,11 @@
 #![tactic(auto)]
 
 mod floats;
-mod names;
 mod numbers;
 mod pieces;
 mod samples;
+mod written;
 
-pub use floats::float;
-pub use names::is_name;
-pub use numbers::{byte, number, word};
+pub use numbers::number;
 pub use pieces::Parts;
-pub use samples::sample;
+pub use written::Written;

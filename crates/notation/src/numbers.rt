@@ -1,12 +1,7 @@
 ghost use Rattle.std.specs.Prelude.{◌≡◌, ◌≤◌, IfSome};
-ghost use Rattle.sheet.specs.Words.{digit};
 ghost use Rattle.notation.specs.Numbers.{number_of};
 
-fn is_digit(b: u8) -> bool
-    ensures { result ≡ digit b }
-{
-    b'0' <= b && b <= b'9'
-}
+use crate::written::Written;
 
 // The number that one or more digits write, if it is at most `largest`.
 pub fn number(text: &[u8], largest: u32) -> Option<u32>
@@ -18,7 +13,7 @@ pub fn number(text: &[u8], largest: u32) -> Option<u32>
     }
     let mut n: u64 = 0;
     for b in text {
-        if !is_digit(*b) {
+        if !b.is_ascii_digit() {
             return None;
         }
         n = n * 10 + u64::from(*b - b'0');
@@ -29,22 +24,21 @@ pub fn number(text: &[u8], largest: u32) -> Option<u32>
     Some(n as u32)
 }
 
+// Stays (plain): one impl for every whole number would overlap those for floats and samples, so each width has its own.
 // A number of 8 bits.
-pub fn byte(text: &[u8]) -> Option<u8>
-    ensures value { result ≡ number_of 255 text.now }
-{
-    match number(text, 255) {
-        Some(n) => Some(n as u8),
-        None => None,
+impl Written for u8 {
+    ghost reads = { λ bs r. r ≡ number_of 255 bs };
+
+    fn read(text: &[u8]) -> Option<u8> {
+        Some(number(text, 255)? as u8)
     }
 }
 
 // A number of 16 bits.
-pub fn word(text: &[u8]) -> Option<u16>
-    ensures value { result ≡ number_of 65535 text.now }
-{
-    match number(text, 65535) {
-        Some(n) => Some(n as u16),
-        None => None,
+impl Written for u16 {
+    ghost reads = { λ bs r. r ≡ number_of 65535 bs };
+
+    fn read(text: &[u8]) -> Option<u16> {
+        Some(number(text, 65535)? as u16)
     }
 }

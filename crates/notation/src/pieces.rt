@@ -1,27 +1,24 @@
-ghost use Rattle.std.specs.Prelude.{◌≡◌, ◌≤◌, length};
-ghost use Rattle.sheet.specs.Pieces.{split, first};
-ghost use Rattle.notation.specs.Pieces.{pieces_of, Gives};
+ghost use Rattle.std.specs.Prelude.{◌≡◌, ◌==◌, drop, length};
 ghost use Rattle.std.specs.Iterator.{at_most};
+ghost use Rattle.std.specs.List.{position};
+ghost use Rattle.sheet.specs.Pieces.{split};
+ghost use Rattle.notation.specs.Pieces.{FirstReads, Gives, pieces_of};
+
+use crate::written::Written;
 
 // The pieces of a text between the bytes `stop`, one after another: one more than there are such bytes.
 #[derive(Clone, Copy)]
 pub struct Parts<'a> {
     stop: u8,
-    rest: &'a [u8],
-    ended: bool,
+    // What is still to be cut; nothing once the last piece was taken.
+    rest: Option<&'a [u8]>,
 }
 
-// How many bytes stand before the first `stop`, or in all.
-fn until(text: &[u8], stop: u8) -> usize
-    ensures value { result ≡ length (first stop text.now) }
-    ensures within { result ≤ length text.now }
+// Where the first `stop` stands.
+fn first_stop(text: &[u8], stop: u8) -> Option<usize>
+    ensures { result ≡ position (λ b. b == stop) text.now }
 {
-    for (n, b) in text.iter().enumerate() {
-        if *b == stop {
-            return n;
-        }
-    }
-    text.len()
+    text.iter().position(|b| *b == stop)
 }
 
 impl<'a> Parts<'a> {
@@ -31,9 +28,16 @@ impl<'a> Parts<'a> {
     {
         Parts {
             stop,
-            rest: text,
-            ended: false,
+            rest: Some(text),
         }
+    }
+
+    // The value that the next piece writes; the piece is taken also where it writes none.
+    pub fn read<T: Written>(&mut self) -> Option<T>
+        ensures value { FirstReads T.reads (pieces_of self.old) result }
+        ensures rest { pieces_of self.new ≡ drop 1 (pieces_of self.old) }
+    {
+        T::read(self.next()?)
     }
 }
 
@@ -45,16 +49,16 @@ impl<'a> Iterator for Parts<'a> {
     ghost remaining = { λ s. at_most (length (pieces_of s)) };
 
     fn next(&mut self) -> Option<&'a [u8]> {
-        if self.ended {
-            return None;
+        let text = self.rest?;
+        match first_stop(text, self.stop) {
+            Some(n) => {
+                self.rest = Some(&text[n + 1..]);
+                Some(&text[..n])
+            }
+            None => {
+                self.rest = None;
+                Some(text)
+            }
         }
-        let text = self.rest;
-        let n = until(text, self.stop);
-        if n < text.len() {
-            self.rest = &text[n + 1..];
-        } else {
-            self.ended = true;
-        }
-        Some(&text[0..n])
     }
 }
