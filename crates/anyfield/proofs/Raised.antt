@@ -1,11 +1,10 @@
 -- Towers one on the other.
-use Rattle.std.proofs.Common.{◌≡◌, ℕ, zero, suc, ◌+◌, ◌-◌, ◌<◌, ◌≤◌, Bool, true, false, eqb, List, [], ◌∷◌, length, drop, Err, codes, Result, sym, refl, ap, ◌∙◌, add-one, arith}
+use Rattle.std.proofs.Common.{◌≡◌, ℕ, zero, suc, ◌+◌, ◌-◌, ◌<◌, ◌≤◌, Bool, true, false, eqb, List, [], ◌∷◌, length, Err, codes, Result, sym, refl, ap, ◌∙◌, add-one, arith}
 use Rattle.std.specs.Str.{bytes_eq}
 use Rattle.std.proofs.lemmas.Bool.{cond-true, cond-false}
 use Rattle.sheet.specs.Pieces.{cut, split}
-use Rattle.notation.specs.Pieces.{to_come}
 use Rattle.anyfield.specs.Fields.{Made}
-use Rattle.anyfield.specs.Written.{Fault, not_written, base_of, behind, binary_of, field_of, first_number, prime_of, raise, raises, read_field, whole}
+use Rattle.anyfield.specs.Written.{Fault, not_written, base_of, field_of, raise, raises, read_field, whole}
 
 -- a fault stays the fault
 pub raises_fault : (n : ℕ) (f : Fault) → raises n (Err f) ≡ Err f
@@ -42,24 +41,6 @@ pub field_base : (w : List ℕ) (ps : List (List ℕ)) → false ≡ bytes_eq w 
 unfolding field_of
 field_base w ps e = sym (cond-false (bytes_eq w (codes "tower")) (raise (field_of ps)) (base_of w ps) (sym e))
 
-pub drop_two : (ps : List (List ℕ)) → drop 1 (drop 1 ps) ≡ drop 2 ps
-drop_two [] = refl
-drop_two (p ∷ []) = refl
-drop_two (p ∷ (q ∷ ps)) = refl
-
--- the words of the two bases, and another word
-pub base_prime : (w : List ℕ) (ps : List (List ℕ)) → true ≡ bytes_eq w (codes "prime") → behind (drop 1 ps) (prime_of (first_number 255 ps)) ≡ base_of w ps
-unfolding base_of
-base_prime w ps e = sym (cond-true (bytes_eq w (codes "prime")) _ _ (sym e))
-
-pub base_binary : (w : List ℕ) (ps : List (List ℕ)) → false ≡ bytes_eq w (codes "prime") → true ≡ bytes_eq w (codes "binary") → behind (drop 2 ps) (binary_of (first_number 255 ps) (first_number 65535 (drop 1 ps))) ≡ base_of w ps
-unfolding base_of
-base_binary w ps n e = sym (cond-false (bytes_eq w (codes "prime")) _ _ (sym n) ∙ cond-true (bytes_eq w (codes "binary")) _ _ (sym e))
-
-pub base_other : (w : List ℕ) (ps : List (List ℕ)) → false ≡ bytes_eq w (codes "prime") → false ≡ bytes_eq w (codes "binary") → Err not_written ≡ base_of w ps
-unfolding base_of
-base_other w ps n e = sym (cond-false (bytes_eq w (codes "prime")) _ _ (sym n) ∙ cond-false (bytes_eq w (codes "binary")) _ _ (sym e))
-
 cut_few : (t : Bool) (b : ℕ) (bs : List ℕ) (ps : List (List ℕ)) → length ps ≤ length bs + 1 → length (cut t b ps) ≤ length (b ∷ bs) + 1
 cut_few true b bs ps h = omega arith
 cut_few false b bs [] h = omega arith
@@ -70,10 +51,6 @@ pub pieces_few : (c : ℕ) (bs : List ℕ) → length (split c bs) ≤ length bs
 unfolding split
 pieces_few c [] = omega arith
 pieces_few c (b ∷ bs) = cut_few (eqb b c) b bs (split c bs) (pieces_few c bs)
-
-pub come_few : (e : Bool) (c : ℕ) (bs : List ℕ) → length (to_come e c bs) ≤ length bs + 1
-come_few true c bs = omega arith
-come_few false c bs = pieces_few c bs
 
 -- what the pieces of a whole text say
 pub read_by : (bs : List ℕ) (ps : List (List ℕ)) (n : ℕ) (x : Result (Made × List (List ℕ)) Fault) → ps ≡ split 58 bs → raises n x ≡ field_of ps → whole (raises n x) ≡ read_field bs

@@ -1,8 +1,9 @@
-ghost use Rattle.std.specs.Prelude.{◌≡◌, ◌^◌, ◌<◌, length, Ok};
+ghost use Rattle.std.specs.Prelude.{◌≡◌, ◌^◌, ◌<◌, codes, drop, length, Ok};
 ghost use Rattle.std.specs.Option.{option_map};
+ghost use Rattle.std.specs.Str.{bytes_eq};
 ghost use Rattle.notation.specs.Pieces.{pieces_of};
 ghost use Rattle.anyfield.specs.Fields.{made_of};
-ghost use Rattle.anyfield.specs.Written.{answered, base_from, base_of, behind, binary_of, field_of, prime_of, raise, raises, read_field, tower_of};
+ghost use Rattle.anyfield.specs.Written.{answered, base_from, behind, binary_of, field_of, first_number, prime_of, raise, raises, read_field, tower_of};
 ghost use Rattle.anyfield.specs.declared.written.FieldFault.TheVariants.{Refused};
 
 use crate::any::AnyField;
@@ -49,16 +50,22 @@ fn tower_of(base: &AnyField, u: Option<u8>, v: Option<u8>) -> Result<AnyField, F
     Ok(base.raised(u, v)?)
 }
 
-// The prime or binary field that a word and the parts behind it name.
-fn base_of(name: &[u8], parts: &mut Parts) -> Result<AnyField, FieldFault>
-    ensures { behind (pieces_of parts.new) (answered result) ≡ base_of name.now (pieces_of parts.old) }
+// The binary field that the next two parts name.
+fn binary_from(parts: &mut Parts) -> Result<AnyField, FieldFault>
+    ensures { behind (pieces_of parts.new) (answered result) ≡ behind (drop 2 (pieces_of parts.old)) (binary_of (first_number 255 (pieces_of parts.old)) (first_number 65535 (drop 1 (pieces_of parts.old)))) }
+{
+    let p = parts.read();
+    binary_of(p, parts.read())
+}
+
+// The prime or binary field that a word, if there is one, and the parts behind it name.
+#[tactic(auto, unfolding(crate::specs::Written::base_of))]
+fn base_from(name: Option<&[u8]>, parts: &mut Parts) -> Result<AnyField, FieldFault>
+    ensures { behind (pieces_of parts.new) (answered result) ≡ base_from (option_map (λ x. x.now) name.entry) (pieces_of parts.old) }
 {
     match name {
-        b"prime" => prime_of(parts.read()),
-        b"binary" => {
-            let p = parts.read();
-            binary_of(p, parts.read())
-        }
+        Some(b"prime") => prime_of(parts.read()),
+        Some(b"binary") => binary_from(parts),
         _ => Err(FieldFault::NotWritten),
     }
 }
@@ -82,6 +89,12 @@ fn towers_from(base: AnyField, towers: usize, parts: &mut Parts) -> Result<AnyFi
     Ok(field)
 }
 
+fn is_tower(name: &[u8]) -> bool
+    ensures { result ≡ bytes_eq name.now (codes "tower") }
+{
+    matches!(name, b"tower")
+}
+
 // How often the word `tower` comes, and the word behind.
 fn towers_in_front<'a>(parts: &mut Parts<'a>) -> (usize, Option<&'a [u8]>)
     requires { length (pieces_of parts.old) < 2 ^ 64 }
@@ -89,7 +102,7 @@ fn towers_in_front<'a>(parts: &mut Parts<'a>) -> (usize, Option<&'a [u8]>)
 {
     let mut towers = 0;
     while let Some(name) = parts.next() {
-        if name != b"tower" {
+        if !is_tower(name) {
             return (towers, Some(name));
         }
         towers += 1;
@@ -104,8 +117,7 @@ pub fn read_field(text: &[u8]) -> Result<AnyField, FieldFault>
 {
     let mut parts = Parts::new(text, b':');
     let (towers, name) = towers_in_front(&mut parts);
-    let name = name.ok_or(FieldFault::NotWritten)?;
-    let base = base_of(name, &mut parts)?;
+    let base = base_from(name, &mut parts)?;
     let field = towers_from(base, towers, &mut parts)?;
     match parts.next() {
         Some(_) => Err(FieldFault::NotWritten),

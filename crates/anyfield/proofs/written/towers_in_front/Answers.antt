@@ -7,9 +7,9 @@ use Rattle.anyfield.proofs.written.towers_in_front.Goals as goal
 pub loop-name-init : goal.loop-name-init
 loop-name-init c = ((tt, tt), omega arith, raises_none _)
 
-pub returns-then-not-is_name : goal.returns-then-not-is_name
-returns-then-not-is_name c =
-    ap (raises c.loop-name.towers) (field_base c.in-Some.name.now (pieces_of c.next.new.self) c.if-not-is_name.ensures ∙ ap field_of (sym c.in-Some.ensures.steps))
+pub returns-then-not-is_tower : goal.returns-then-not-is_tower
+returns-then-not-is_tower c =
+    ap (raises c.loop-name.towers) (field_base c.in-Some.name.now (pieces_of c.next.new.self) c.if-not-is_tower.ensures ∙ ap field_of (sym c.in-Some.ensures.steps))
     ∙ c.loop-name.invariant.2
 
 pub overflow_add-towers : goal.overflow_add-towers
@@ -20,7 +20,7 @@ loop-name-preserved c = (
   (tt, tt),
   omega (arith, c.loop-name.invariant.1, ap length c.in-Some.ensures.steps),
   raises_more c.loop-name.towers _
-      ∙ ap (raises c.loop-name.towers) (field_tower c.in-Some.name.now (pieces_of c.next.new.self) c.if-not-is_name.ensures ∙ ap field_of (sym c.in-Some.ensures.steps))
+      ∙ ap (raises c.loop-name.towers) (field_tower c.in-Some.name.now (pieces_of c.next.new.self) c.if-not-is_tower.ensures ∙ ap field_of (sym c.in-Some.ensures.steps))
       ∙ c.loop-name.invariant.2,
 )
 
