@@ -1,38 +1,32 @@
 // What a line asks for.
+use crate::joining::Joining;
 use sampling::{Sample, Settings};
 
-#[derive(Clone, Copy)]
-pub enum Joining {
-    Full,
-    Selective,
-}
-
-// Calls that need no field, or make one.
 #[derive(Drop)]
 pub enum Call {
     Prime(u8),
     Binary(u8, u16),
-    Joiner(Joining),
-    Sheet,
-    Area { words: usize, fill: u16 },
-    Load { column: u16, values: Vec<u16> },
-    Start,
-    Read { column: u16, size: Option<usize> },
-    Sample(Sampling),
-    OnField(FieldCall),
-}
-
-// Calls on the field in use.
-#[derive(Drop)]
-pub enum FieldCall {
     Tower(u8, u8),
     Sum(u8, u8),
     Product(u8, u8),
     Opposite(u8),
     Inverse(u8),
+    Joiner(Joining),
     Join(Join),
+    Sheet,
+    Area { words: usize, fill: u16 },
+    Sample(Sampling),
+    OnCode(CodeCall),
+}
+
+// Calls on the code in use.
+#[derive(Drop)]
+pub enum CodeCall {
     Open,
+    Load { column: u16, values: Vec<u16> },
+    Start,
     Round,
+    Read { column: u16, size: Option<usize> },
     Conclude(Option<usize>),
     Encode(Coding),
     Extract(Coding),

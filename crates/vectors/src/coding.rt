@@ -2,15 +2,27 @@
 use crate::calls::{Coding, Sampling};
 use crate::replies::{Reply, Stop};
 use code::code::Code;
+use encoder::refusal::CoderRefusal;
 use field::Field;
 use sampling::channel_costs;
 use std::alloc::Global;
 
-// M × N bytes unless the line says how many.
-fn scratch(heap: Global, code: &Code, size: Option<usize>) -> Result<Vec<u8>, Stop> {
+// Lends a scratch of M × N bytes and a target of the size due, unless the line says how many.
+fn coded<F: FnOnce(&mut [u8], &mut [u8]) -> Result<(), CoderRefusal>>(
+    heap: Global,
+    code: &Code,
+    coding: &Coding,
+    due: usize,
+    step: F,
+) -> Result<Reply, Stop>
+    requires { F.IsAlwaysCallable step }
+{
     let header = code.header();
-    let due = header.rows as usize * header.columns as usize;
-    Ok(vec![in heap; 0u8; size.unwrap_or(due)]?)
+    let all = header.rows as usize * header.columns as usize;
+    let mut scratch = vec![in heap; 0u8; coding.scratch.unwrap_or(all)]?;
+    let mut target = vec![in heap; 0u8; coding.size.unwrap_or(due)]?;
+    step(scratch.as_mut_slice(), target.as_mut_slice())?;
+    Ok(Reply::Symbols(target))
 }
 
 pub fn encode<F: Field>(
@@ -19,17 +31,10 @@ pub fn encode<F: Field>(
     code: &Code,
     coding: &Coding,
 ) -> Result<Reply, Stop> {
-    let mut scratch = scratch(heap, code, coding.scratch)?;
-    let size = coding.size.unwrap_or(code.header().columns as usize);
-    let mut word = vec![in heap; 0u8; size]?;
-    encoder::encode(
-        field,
-        code,
-        coding.given.as_slice(),
-        scratch.as_mut_slice(),
-        word.as_mut_slice(),
-    )?;
-    Ok(Reply::Symbols(word))
+    let due = code.header().columns as usize;
+    coded(heap, code, coding, due, |scratch, word| {
+        encoder::encode(field, code, coding.given.as_slice(), scratch, word)
+    })
 }
 
 pub fn extract<F: Field>(
@@ -38,18 +43,11 @@ pub fn extract<F: Field>(
     code: &Code,
     coding: &Coding,
 ) -> Result<Reply, Stop> {
-    let mut scratch = scratch(heap, code, coding.scratch)?;
     let header = code.header();
     let due = header.columns.saturating_sub(header.rows) as usize;
-    let mut symbols = vec![in heap; 0u8; coding.size.unwrap_or(due)]?;
-    encoder::extract(
-        field,
-        code,
-        coding.given.as_slice(),
-        scratch.as_mut_slice(),
-        symbols.as_mut_slice(),
-    )?;
-    Ok(Reply::Symbols(symbols))
+    coded(heap, code, coding, due, |scratch, symbols| {
+        encoder::extract(field, code, coding.given.as_slice(), scratch, symbols)
+    })
 }
 
 // As many costs as the samples have codes; more than 6 samples are refused with any.

@@ -1,132 +1,149 @@
-// The six calls on a frame.
-use crate::calls::Joining;
-use crate::hand::{Frame, Slip};
+// A frame's area and slip, and the six calls on it.
 use crate::replies::{Reply, Stop};
 use code::code::Code;
 use field::Field;
-use joiner::{Full, Selective};
+use frame::{LoadingSlip, NotConcluded, NotStarted, RunningSlip};
+use joiner::Joiner;
 use std::alloc::Global;
-use std::mem;
 
-// Lends a new area, and keeps the slip.
-pub fn lend(heap: Global, frame: &mut Frame, words: usize, fill: u16) -> Result<Reply, Stop> {
-    frame.area = Some(vec![in heap; fill; words]?);
-    Ok(Reply::Done)
+#[derive(Drop)]
+pub struct Frame {
+    area: Option<Vec<u16>>,
+    slip: Option<Slip>,
 }
 
-pub fn open<F: Field>(field: &F, code: &Code, frame: &mut Frame) -> Result<Reply, Stop> {
-    let Some(area) = &mut frame.area else {
-        return Err(Stop::Lacks);
-    };
-    let slip = frame::open(field, code, area.as_mut_slice())?;
-    frame.slip = Slip::Loading(slip);
-    Ok(Reply::Done)
+#[derive(Drop)]
+enum Slip {
+    Loading(LoadingSlip),
+    Running(RunningSlip),
 }
 
-pub fn load(code: &Code, frame: &mut Frame, column: u16, values: &[u16]) -> Result<Reply, Stop> {
-    let Some(area) = &mut frame.area else {
-        return Err(Stop::Lacks);
-    };
-    let Slip::Loading(slip) = &frame.slip else {
-        return Err(Stop::Lacks);
-    };
-    frame::load(code, slip, area.as_mut_slice(), column, values)?;
-    Ok(Reply::Done)
-}
-
-pub fn start(code: &Code, frame: &mut Frame) -> Result<Reply, Stop> {
-    let Some(area) = &mut frame.area else {
-        return Err(Stop::Lacks);
-    };
-    match mem::replace(&mut frame.slip, Slip::Without) {
-        Slip::Loading(slip) => match frame::start(code, slip, area.as_mut_slice()) {
-            Ok(running) => {
-                frame.slip = Slip::Running(running);
-                Ok(Reply::Done)
-            }
-            Err(back) => {
-                let frame::NotStarted { refusal, slip } = back;
-                frame.slip = Slip::Loading(slip);
-                Err(Stop::No(refusal.number()))
-            }
-        },
-        other => {
-            frame.slip = other;
-            Err(Stop::Lacks)
-        }
+fn loading(slip: &Option<Slip>) -> Result<&LoadingSlip, Stop> {
+    match slip {
+        Some(Slip::Loading(slip)) => Ok(slip),
+        _ => Err(Stop::Lacks),
     }
 }
 
-pub fn round<F: Field>(
-    field: &F,
-    joining: Joining,
-    code: &Code,
-    frame: &mut Frame,
-) -> Result<Reply, Stop> {
-    let Some(area) = &mut frame.area else {
-        return Err(Stop::Lacks);
-    };
-    let Slip::Running(slip) = &mut frame.slip else {
-        return Err(Stop::Lacks);
-    };
-    let told = match joining {
-        Joining::Full => frame::round(field, &Full, code, slip, area.as_mut_slice())?,
-        Joining::Selective => frame::round(field, &Selective, code, slip, area.as_mut_slice())?,
-    };
-    Ok(Reply::Round(told))
+fn running(slip: &Option<Slip>) -> Result<&RunningSlip, Stop> {
+    match slip {
+        Some(Slip::Running(slip)) => Ok(slip),
+        _ => Err(Stop::Lacks),
+    }
 }
 
-pub fn read(
-    heap: Global,
-    code: &Code,
-    frame: &Frame,
-    column: u16,
-    size: Option<usize>,
-) -> Result<Reply, Stop> {
-    let Some(area) = &frame.area else {
-        return Err(Stop::Lacks);
-    };
-    let Slip::Running(slip) = &frame.slip else {
-        return Err(Stop::Lacks);
-    };
-    let size = size.unwrap_or(code.header().order as usize);
-    let mut distances = vec![in heap; 0u16; size]?;
-    let symbol = frame::read(
-        code,
-        slip,
-        area.as_slice(),
-        column,
-        distances.as_mut_slice(),
-    )?;
-    Ok(Reply::Column(symbol, distances))
+fn running_on(slip: &mut Option<Slip>) -> Result<&mut RunningSlip, Stop> {
+    match slip {
+        Some(Slip::Running(slip)) => Ok(slip),
+        _ => Err(Stop::Lacks),
+    }
 }
 
-pub fn conclude<F: Field>(
-    heap: Global,
-    field: &F,
-    code: &Code,
-    frame: &mut Frame,
-    size: Option<usize>,
-) -> Result<Reply, Stop> {
-    let Some(area) = &frame.area else {
-        return Err(Stop::Lacks);
-    };
-    let size = size.unwrap_or(code.header().columns as usize);
-    let mut word = vec![in heap; 0u8; size]?;
-    match mem::replace(&mut frame.slip, Slip::Without) {
-        Slip::Running(slip) => {
-            match frame::conclude(field, code, slip, area.as_slice(), word.as_mut_slice()) {
-                Ok(rounds) => Ok(Reply::Concluded(rounds, word)),
-                Err(back) => {
-                    let frame::NotConcluded { refusal, slip } = back;
-                    frame.slip = Slip::Running(slip);
-                    Err(Stop::No(refusal.number()))
+impl Frame {
+    pub fn empty() -> Frame {
+        Frame {
+            area: None,
+            slip: None,
+        }
+    }
+
+    // Lends a new area, and keeps the slip.
+    pub fn lend(&mut self, heap: Global, words: usize, fill: u16) -> Result<Reply, Stop> {
+        self.area = Some(vec![in heap; fill; words]?);
+        Ok(Reply::Done)
+    }
+
+    pub fn open<F: Field>(&mut self, field: &F, code: &Code) -> Result<Reply, Stop> {
+        let area = self.area.as_mut().ok_or(Stop::Lacks)?;
+        let slip = frame::open(field, code, area.as_mut_slice())?;
+        self.slip = Some(Slip::Loading(slip));
+        Ok(Reply::Done)
+    }
+
+    pub fn load(&mut self, code: &Code, column: u16, values: &[u16]) -> Result<Reply, Stop> {
+        let area = self.area.as_mut().ok_or(Stop::Lacks)?;
+        let slip = loading(&self.slip)?;
+        frame::load(code, slip, area.as_mut_slice(), column, values)?;
+        Ok(Reply::Done)
+    }
+
+    pub fn start(&mut self, code: &Code) -> Result<Reply, Stop> {
+        let area = self.area.as_mut().ok_or(Stop::Lacks)?;
+        match self.slip.take() {
+            Some(Slip::Loading(slip)) => match frame::start(code, slip, area.as_mut_slice()) {
+                Ok(slip) => {
+                    self.slip = Some(Slip::Running(slip));
+                    Ok(Reply::Done)
                 }
+                Err(NotStarted { refusal, slip }) => {
+                    self.slip = Some(Slip::Loading(slip));
+                    Err(refusal.into())
+                }
+            },
+            other => {
+                self.slip = other;
+                Err(Stop::Lacks)
             }
         }
-        other => {
-            frame.slip = other;
-            Err(Stop::Lacks)
+    }
+
+    pub fn round<F: Field, J: Joiner>(
+        &mut self,
+        field: &F,
+        joiner: &J,
+        code: &Code,
+    ) -> Result<Reply, Stop> {
+        let area = self.area.as_mut().ok_or(Stop::Lacks)?;
+        let slip = running_on(&mut self.slip)?;
+        let told = frame::round(field, joiner, code, slip, area.as_mut_slice())?;
+        Ok(Reply::Round(told))
+    }
+
+    pub fn read(
+        &self,
+        heap: Global,
+        code: &Code,
+        column: u16,
+        size: Option<usize>,
+    ) -> Result<Reply, Stop> {
+        let area = self.area.as_ref().ok_or(Stop::Lacks)?;
+        let slip = running(&self.slip)?;
+        let size = size.unwrap_or(code.header().order as usize);
+        let mut distances = vec![in heap; 0u16; size]?;
+        let symbol = frame::read(
+            code,
+            slip,
+            area.as_slice(),
+            column,
+            distances.as_mut_slice(),
+        )?;
+        Ok(Reply::Column(symbol, distances))
+    }
+
+    pub fn conclude<F: Field>(
+        &mut self,
+        heap: Global,
+        field: &F,
+        code: &Code,
+        size: Option<usize>,
+    ) -> Result<Reply, Stop> {
+        let area = self.area.as_ref().ok_or(Stop::Lacks)?;
+        let size = size.unwrap_or(code.header().columns as usize);
+        let mut word = vec![in heap; 0u8; size]?;
+        match self.slip.take() {
+            Some(Slip::Running(slip)) => {
+                match frame::conclude(field, code, slip, area.as_slice(), word.as_mut_slice()) {
+                    Ok(rounds) => Ok(Reply::Concluded(rounds, word)),
+                    Err(NotConcluded { refusal, slip }) => {
+                        self.slip = Some(Slip::Running(slip));
+                        Err(refusal.into())
+                    }
+                }
+            }
+            other => {
+                self.slip = other;
+                Err(Stop::Lacks)
+            }
         }
     }
 }

@@ -1,66 +1,125 @@
-// What is in hand: the field, the code, the joiner, and the frame's area and slip.
-use crate::calls::Joining;
-use crate::replies::Stop;
+// What is in hand, and from a line to its answer.
+use crate::calls::{Call, CodeCall, Join};
+use crate::coding;
+use crate::frames::Frame;
+use crate::joining::Joining;
+use crate::reading::call_of;
+use crate::replies::{Reply, Stop};
+use crate::sheets::{Tables, take_sheet};
 use anyfield::AnyField;
+use binary::Binary;
 use code::code::Code;
-use code::code::admit::admit;
-use code::table::{Edge, Entry, Header};
-use frame::{LoadingSlip, RunningSlip};
+use field::Field;
+use joiner::Joiner;
+use prime::Prime;
+use std::alloc::Global;
+use std::io::BufRead;
 
+// The field, the joiner, the tables of the code, and the frame.
 #[derive(Drop)]
 pub struct Hand {
-    pub field: Option<AnyField>,
-    pub joining: Joining,
-    pub tables: Option<Tables>,
-    pub frame: Frame,
-}
-
-#[derive(Drop)]
-pub struct Frame {
-    pub area: Option<Vec<u16>>,
-    pub slip: Slip,
-}
-
-#[derive(Drop)]
-pub enum Slip {
-    Without,
-    Loading(LoadingSlip),
-    Running(RunningSlip),
-}
-
-// The tables of a code, filled in front.
-#[derive(Clone, Copy)]
-pub struct Tables {
-    pub header: Header,
-    pub width: usize,
-    pub edges: [Edge; 1024],
-    pub entries: [Entry; 1024],
+    heap: Global,
+    field: Option<AnyField>,
+    joining: Joining,
+    tables: Option<Tables>,
+    frame: Frame,
 }
 
 impl Hand {
-    pub fn empty() -> Hand {
+    pub fn empty(heap: Global) -> Hand {
         Hand {
+            heap,
             field: None,
             joining: Joining::Full,
             tables: None,
-            frame: Frame {
-                area: None,
-                slip: Slip::Without,
-            },
+            frame: Frame::empty(),
         }
     }
-}
 
-impl Tables {
-    // Writes the code that the tables hold.
-    pub fn admit_into<'a>(&'a self, code: &mut Code<'a>) -> Result<(), Stop> {
-        let w = self.width;
-        if w > 1024 {
-            return Err(Stop::Lacks);
+    fn field(&self) -> Result<&AnyField, Stop> {
+        self.field.as_ref().ok_or(Stop::Lacks)
+    }
+
+    fn take_field(&mut self, field: AnyField) -> Result<Reply, Stop> {
+        self.field = Some(field);
+        Ok(Reply::Done)
+    }
+
+    fn join(&self, join: &Join) -> Result<Reply, Stop> {
+        let field = self.field()?;
+        let size = join.size.unwrap_or(field.order() as usize);
+        let mut joined = vec![in self.heap; 0u16; size]?;
+        let pairs = self.joining.join(
+            field,
+            join.ceiling,
+            join.left.as_slice(),
+            join.right.as_slice(),
+            joined.as_mut_slice(),
+        )?;
+        Ok(Reply::Joined(pairs, joined))
+    }
+
+    // Takes a sheet's lines from the input; the tables of an accepted one replace those in use.
+    fn take_sheet<R: BufRead>(&mut self, input: &mut R) -> Result<Reply, Stop> {
+        match take_sheet(self.heap, input)? {
+            Ok((numbers, tables)) => {
+                self.tables = Some(tables);
+                Ok(Reply::Sheet(Ok(numbers)))
+            }
+            Err(fault) => Ok(Reply::Sheet(Err(fault))),
         }
-        match admit(self.header, &self.edges[0..w], &self.entries[0..w], code) {
-            Ok(()) => Ok(()),
-            Err(_) => Err(Stop::Lacks),
+    }
+
+    // A call on the code in use, and perhaps on the field and the frame.
+    fn on_code(&mut self, call: &CodeCall) -> Result<Reply, Stop> {
+        let tables = self.tables.as_ref().ok_or(Stop::Lacks)?;
+        let mut code = Code::builtin();
+        tables.admit_into(&mut code)?;
+        let heap = self.heap;
+        let field = self.field.as_ref().ok_or(Stop::Lacks);
+        let frame = &mut self.frame;
+        match call {
+            CodeCall::Open => frame.open(field?, &code),
+            CodeCall::Load { column, values } => frame.load(&code, *column, values.as_slice()),
+            CodeCall::Start => frame.start(&code),
+            CodeCall::Round => frame.round(field?, &self.joining, &code),
+            CodeCall::Read { column, size } => frame.read(heap, &code, *column, *size),
+            CodeCall::Conclude(size) => frame.conclude(heap, field?, &code, *size),
+            CodeCall::Encode(coding) => coding::encode(heap, field?, &code, coding),
+            CodeCall::Extract(coding) => coding::extract(heap, field?, &code, coding),
         }
+    }
+
+    // Carries a call out.
+    fn perform<R: BufRead>(&mut self, call: &Call, input: &mut R) -> Result<Reply, Stop> {
+        match call {
+            Call::Prime(q) => self.take_field(AnyField::Prime(Prime::new(*q)?)),
+            Call::Binary(p, polynomial) => {
+                self.take_field(AnyField::Binary(Binary::new(*p, *polynomial)?))
+            }
+            Call::Tower(u, v) => {
+                let tower = self.field()?.raised(*u, *v)?;
+                self.take_field(tower)
+            }
+            Call::Sum(a, b) => Ok(Reply::Code(self.field()?.sum(*a, *b))),
+            Call::Product(a, b) => Ok(Reply::Code(self.field()?.product(*a, *b))),
+            Call::Opposite(a) => Ok(Reply::Code(self.field()?.opposite(*a))),
+            Call::Inverse(a) => Ok(Reply::Code(self.field()?.inverse(*a))),
+            Call::Joiner(joining) => {
+                self.joining = *joining;
+                Ok(Reply::Done)
+            }
+            Call::Join(join) => self.join(join),
+            Call::Sheet => self.take_sheet(input),
+            Call::Area { words, fill } => self.frame.lend(self.heap, *words, *fill),
+            Call::Sample(sampling) => coding::sample(self.heap, sampling),
+            Call::OnCode(call) => self.on_code(call),
+        }
+    }
+
+    // What a line is answered; a sheet's lines are taken from the input.
+    pub fn answer<R: BufRead>(&mut self, line: &[u8], input: &mut R) -> Result<Reply, Stop> {
+        let call = call_of(self.heap, line)?;
+        self.perform(&call, input)
     }
 }

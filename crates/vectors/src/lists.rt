@@ -1,31 +1,8 @@
 // Lists of values, parted by spaces.
 use crate::replies::Stop;
-use notation::{Parts, byte, sample, word};
-use sampling::Sample;
+use notation::{Parts, Written};
 use std::alloc::Global;
-
-// What a list can hold.
-pub trait Written: Drop {
-    fn read(text: &[u8]) -> Option<Self>;
-}
-
-impl Written for u8 {
-    fn read(text: &[u8]) -> Option<u8> {
-        byte(text)
-    }
-}
-
-impl Written for u16 {
-    fn read(text: &[u8]) -> Option<u16> {
-        word(text)
-    }
-}
-
-impl Written for Sample {
-    fn read(text: &[u8]) -> Option<Sample> {
-        sample(text)
-    }
-}
+use std::fmt::{self, Display};
 
 // The values that a field holds: none in an empty field.
 pub fn list<T: Written>(heap: Global, field: &[u8]) -> Result<Vec<T>, Stop> {
@@ -34,10 +11,23 @@ pub fn list<T: Written>(heap: Global, field: &[u8]) -> Result<Vec<T>, Stop> {
         return Ok(values);
     }
     for text in Parts::new(field, b' ') {
-        let Some(value) = T::read(text) else {
-            return Err(Stop::Bad);
-        };
-        values.push(value)?;
+        values.push(T::read(text).ok_or(Stop::Bad)?)?;
     }
     Ok(values)
+}
+
+// Values that are printed as a list.
+#[derive(Clone, Copy)]
+pub struct Listed<'a, T>(pub &'a [T]);
+
+impl<T: Display> Display for Listed<'_, T> {
+    fn fmt<W: fmt::Write>(&self, f: &mut fmt::Formatter<W>) -> fmt::Result {
+        for (i, value) in self.0.iter().enumerate() {
+            if i > 0 {
+                f.write_str(" ")?;
+            }
+            value.fmt(f)?;
+        }
+        Ok(())
+    }
 }

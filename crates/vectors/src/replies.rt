@@ -1,13 +1,15 @@
 // What a call answers.
+use crate::lists::Listed;
+use code::numbers::Numbers;
 use due::Told;
 use encoder::refusal::CoderRefusal;
 use field::FieldRefusal;
 use frame::FrameRefusal;
 use joiner::JoinRefusal;
 use sampling::SampleRefusal;
-use sheet::fault::SheetFault;
-use sheet::read::Numbers;
+use sheet::fault::{Layer, SheetFault, Spot};
 use std::alloc::{AllocError, AllocFailed};
+use std::fmt::{self, Display};
 
 // A granted call, or a sheet's verdict.
 #[derive(Drop)]
@@ -15,8 +17,7 @@ pub enum Reply {
     Done,
     Code(Option<u8>),
     Joined(u32, Vec<u16>),
-    Accepted(Numbers),
-    Faulty(SheetFault),
+    Sheet(Result<Numbers, SheetFault>),
     Round(Told),
     Column(u8, Vec<u16>),
     Concluded(u16, Vec<u8>),
@@ -24,13 +25,92 @@ pub enum Reply {
     Symbols(Vec<u8>),
 }
 
+fn write_fault<W: fmt::Write>(f: &mut fmt::Formatter<W>, fault: SheetFault) -> fmt::Result {
+    let number = fault.number();
+    let layer = match fault.layer() {
+        Layer::Text => "text",
+        Layer::Record => "record",
+        Layer::Code => "code",
+    };
+    match fault.spot() {
+        Spot::Text(place) => {
+            let line = place.line;
+            let byte = place.byte;
+            write!(f, "no\t{number}\t{layer}\t{line}\t{byte}")
+        }
+        Spot::Table(position) => write!(f, "no\t{number}\t{layer}\t{position}"),
+    }
+}
+
+// Its fields are parted by tabs and its numbers by spaces.
+impl Display for Reply {
+    fn fmt<W: fmt::Write>(&self, f: &mut fmt::Formatter<W>) -> fmt::Result {
+        match self {
+            Reply::Done => write!(f, "ok"),
+            Reply::Code(Some(code)) => write!(f, "ok\t{code}"),
+            Reply::Code(None) => write!(f, "none"),
+            Reply::Joined(pairs, costs) => write!(f, "ok\t{pairs}\t{}", Listed(costs.as_slice())),
+            Reply::Sheet(Ok(numbers)) => write!(f, "ok\t{numbers}"),
+            Reply::Sheet(Err(fault)) => write_fault(f, *fault),
+            Reply::Round(told) => write!(
+                f,
+                "ok\t{}\t{}\t{}",
+                told.rounds, told.failing, told.pairs
+            ),
+            Reply::Column(symbol, distances) => {
+                write!(f, "ok\t{symbol}\t{}", Listed(distances.as_slice()))
+            }
+            Reply::Concluded(rounds, word) => write!(
+                f,
+                "ok\t{rounds}\t{}",
+                Listed(word.as_slice())
+            ),
+            Reply::Costs(costs) => write!(f, "ok\t{}", Listed(costs.as_slice())),
+            Reply::Symbols(symbols) => write!(f, "ok\t{}", Listed(symbols.as_slice())),
+        }
+    }
+}
+
+// A refusal of one of the library's calls.
+#[derive(Clone, Copy)]
+pub enum Refusal {
+    Field(FieldRefusal),
+    Join(JoinRefusal),
+    Frame(FrameRefusal),
+    Coder(CoderRefusal),
+    Sample(SampleRefusal),
+}
+
+impl Refusal {
+    fn number(self) -> u8 {
+        match self {
+            Refusal::Field(refusal) => refusal.number(),
+            Refusal::Join(refusal) => refusal.number(),
+            Refusal::Frame(refusal) => refusal.number(),
+            Refusal::Coder(refusal) => refusal.number(),
+            Refusal::Sample(refusal) => refusal.number(),
+        }
+    }
+}
+
 // Why a line has no such reply: it is no call, something is not in hand, the call is refused, or memory is out.
 #[derive(Clone, Copy)]
 pub enum Stop {
     Bad,
     Lacks,
-    No(u8),
+    Refused(Refusal),
     Memory,
+}
+
+impl Display for Stop {
+    fn fmt<W: fmt::Write>(&self, f: &mut fmt::Formatter<W>) -> fmt::Result {
+        match self {
+            Stop::Bad => write!(f, "bad"),
+            Stop::Lacks => write!(f, "lacks"),
+            Stop::Refused(refusal) => write!(f, "no\t{}", refusal.number()),
+            Stop::Memory => write!(f, "memory"),
+        }
+    }
 }
 
 impl From<AllocError> for Stop {
@@ -47,30 +127,30 @@ impl<T: Drop> From<AllocFailed<T>> for Stop {
 
 impl From<FieldRefusal> for Stop {
     fn from(refusal: FieldRefusal) -> Stop {
-        Stop::No(refusal.number())
+        Stop::Refused(Refusal::Field(refusal))
     }
 }
 
 impl From<JoinRefusal> for Stop {
     fn from(refusal: JoinRefusal) -> Stop {
-        Stop::No(refusal.number())
+        Stop::Refused(Refusal::Join(refusal))
     }
 }
 
 impl From<FrameRefusal> for Stop {
     fn from(refusal: FrameRefusal) -> Stop {
-        Stop::No(refusal.number())
+        Stop::Refused(Refusal::Frame(refusal))
     }
 }
 
 impl From<CoderRefusal> for Stop {
     fn from(refusal: CoderRefusal) -> Stop {
-        Stop::No(refusal.number())
+        Stop::Refused(Refusal::Coder(refusal))
     }
 }
 
 impl From<SampleRefusal> for Stop {
     fn from(refusal: SampleRefusal) -> Stop {
-        Stop::No(refusal.number())
+        Stop::Refused(Refusal::Sample(refusal))
     }
 }

@@ -1,11 +1,73 @@
 // A sheet among the lines.
-use crate::hand::Tables;
 use crate::lines::{content, take_line};
-use crate::replies::{Reply, Stop};
+use crate::replies::Stop;
+use code::code::Code;
+use code::code::admit::admit;
+use code::numbers::Numbers;
 use code::table::{Edge, Entry, Header};
-use sheet::read::{Numbers, read};
+use sheet::fault::SheetFault;
+use sheet::read::read;
 use std::alloc::Global;
 use std::io::BufRead;
+
+// The tables of a code.
+#[derive(Drop)]
+pub struct Tables {
+    header: Header,
+    edges: Vec<Edge>,
+    entries: Vec<Entry>,
+}
+
+impl Tables {
+    // Reads a sheet's tables.
+    pub fn read(heap: Global, text: &[u8]) -> Result<Result<(Numbers, Tables), SheetFault>, Stop> {
+        let edge = Edge {
+            row: 0,
+            column: 0,
+            coefficient: 0,
+        };
+        let mut edges = vec![in heap; edge; 1024]?;
+        let mut entries = vec![in heap; Entry { column: 0, row: 0 }; 1024]?;
+        match read(text, edges.as_mut_slice(), entries.as_mut_slice()) {
+            Ok(numbers) => {
+                // An accepted sheet has as many entries as edges.
+                edges.truncate(numbers.edges);
+                entries.truncate(numbers.edges);
+                let header = header_of(numbers);
+                Ok(Ok((
+                    numbers,
+                    Tables {
+                        header,
+                        edges,
+                        entries,
+                    },
+                )))
+            }
+            Err(fault) => Ok(Err(fault)),
+        }
+    }
+
+    // Writes the code that the tables hold.
+    pub fn admit_into<'a>(&'a self, code: &mut Code<'a>) -> Result<(), Stop> {
+        let admitted = admit(
+            self.header,
+            self.edges.as_slice(),
+            self.entries.as_slice(),
+            code,
+        );
+        admitted.map_err(|_| Stop::Lacks)
+    }
+}
+
+fn header_of(numbers: Numbers) -> Header {
+    Header {
+        order: numbers.order,
+        columns: numbers.columns,
+        rows: numbers.rows,
+        ceiling: numbers.ceiling,
+        limit: numbers.limit,
+    }
+}
 
 // Collects a sheet's lines as they stand, up to the line `Z` or the end of the input.
 fn collect_lines<R: BufRead>(
@@ -25,48 +87,15 @@ fn collect_lines<R: BufRead>(
     Ok(())
 }
 
-fn header_of(numbers: Numbers) -> Header {
-    Header {
-        order: numbers.order,
-        columns: numbers.columns,
-        rows: numbers.rows,
-        ceiling: numbers.ceiling,
-        limit: numbers.limit,
-    }
-}
-
-// Reads a sheet into tables of its own, which replace those in use if it is accepted.
-fn judge(text: &[u8], tables: &mut Option<Tables>) -> Reply {
-    let mut edges = [Edge {
-        row: 0,
-        column: 0,
-        coefficient: 0,
-    }; 1024];
-    let mut entries = [Entry { column: 0, row: 0 }; 1024];
-    match read(text, &mut edges, &mut entries) {
-        Ok(numbers) => {
-            // An accepted sheet has as many entries as edges.
-            *tables = Some(Tables {
-                header: header_of(numbers),
-                width: numbers.edges,
-                edges,
-                entries,
-            });
-            Reply::Accepted(numbers)
-        }
-        Err(fault) => Reply::Faulty(fault),
-    }
-}
-
+// Reads a sheet from the lines of the input.
 pub fn take_sheet<R: BufRead>(
     heap: Global,
     input: &mut R,
-    tables: &mut Option<Tables>,
-) -> Result<Reply, Stop> {
+) -> Result<Result<(Numbers, Tables), SheetFault>, Stop> {
     let mut line = Vec::new(heap);
     let mut text = Vec::new(heap);
     match collect_lines(input, &mut line, &mut text) {
-        Ok(()) => Ok(judge(text.as_slice(), tables)),
+        Ok(()) => Tables::read(heap, text.as_slice()),
         Err(_) => Err(Stop::Memory),
     }
 }
