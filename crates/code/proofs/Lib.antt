@@ -1,4 +1,3 @@
-mod Counts
 mod Deciding
 pub mod Kept
 pub mod Lawfully

@@ -3,75 +3,49 @@ ghost use Rattle.code.specs.Admission.{column_degree, column_fits, degree_place,
 
 use crate::table::{Edge, Header};
 
+// Stays (plain): rows and columns differ in the field and the bounds. A shared form would take both, and each
+// of its calls would be as long as one of these lines.
 fn row_degree(edges: &[Edge], row: u16) -> usize
     ensures { result ≡ row_degree edges.now row }
 {
-    let mut degree = 0;
-    for e in edges {
-        if e.row == row {
-            degree += 1;
-        }
-    }
-    degree
+    edges.iter().filter(|e| e.row == row).count()
 }
 
 fn column_degree(edges: &[Edge], column: u16) -> usize
     ensures { result ≡ column_degree edges.now column }
 {
-    let mut degree = 0;
-    for e in edges {
-        if e.column == column {
-            degree += 1;
-        }
-    }
-    degree
+    edges.iter().filter(|e| e.column == column).count()
 }
 
 fn row_fits(edges: &[Edge], row: u16) -> bool
     ensures { result ≡ row_fits edges.now row }
 {
-    let degree = row_degree(edges, row);
-    2 <= degree && degree <= 16
+    (2..=16).contains(&row_degree(edges, row))
 }
 
 fn column_fits(edges: &[Edge], column: u16) -> bool
     ensures { result ≡ column_fits edges.now column }
 {
-    let degree = column_degree(edges, column);
-    1 <= degree && degree <= 8
+    (1..=8).contains(&column_degree(edges, column))
 }
 
 fn first_bad_row(edges: &[Edge], rows: u16) -> Option<u16>
     ensures { result ≡ first (row_fits edges.now) 0 rows }
 {
-    for row in 0..rows {
-        if !row_fits(edges, row) {
-            return Some(row);
-        }
-    }
-    None
+    (0..rows).find(|&row| !row_fits(edges, row))
 }
 
 fn first_bad_column(edges: &[Edge], columns: u16) -> Option<u16>
     ensures { result ≡ first (column_fits edges.now) 0 columns }
 {
-    for column in 0..columns {
-        if !column_fits(edges, column) {
-            return Some(column);
-        }
-    }
-    None
+    (0..columns).find(|&column| !column_fits(edges, column))
 }
 
 // The first row, or else column, with too few or too many edges: rows from 0, columns from M on.
 pub(crate) fn degree_place(h: Header, edges: &[Edge]) -> Option<usize>
     ensures { result ≡ degree_place h edges.now }
 {
-    if let Some(row) = first_bad_row(edges, h.rows) {
-        return Some(usize::from(row));
-    }
-    if let Some(column) = first_bad_column(edges, h.columns) {
-        return Some(usize::from(h.rows) + usize::from(column));
-    }
-    None
+    first_bad_row(edges, h.rows).map(usize::from).or_else(|| {
+        first_bad_column(edges, h.columns).map(|j| usize::from(h.rows) + usize::from(j))
+    })
 }

@@ -7,6 +7,7 @@ pub mod numbers;
 mod order;
 mod pairs;
 mod ranges;
+mod record;
 pub mod table;
 #[cfg(test)]
 mod tests;

@@ -1,51 +1,28 @@
-ghost use Rattle.std.specs.Prelude.{◌≡◌};
-ghost use Rattle.code.specs.Admission.{edge_before, entry_before, first_fall, order_place};
+ghost use Rattle.std.specs.Prelude.{◌≡◌, ◌<◌, ◌≤◌, length, IfSome};
+ghost use Rattle.code.specs.Admission.{after, first_fall, order_place};
 
+use crate::record::Record;
 use crate::table::{Edge, Entry};
 
-fn edge_before(a: Edge, b: Edge) -> bool
-    ensures { result ≡ edge_before a b }
+// Whether the line at k comes after the one before it.
+fn follows<T: Record>(items: &[T], k: usize) -> bool
+    requires { (1 ≤ k) × (k < length items.now) }
+    ensures { result ≡ after T.before items.now k }
 {
-    a.row < b.row || a.row == b.row && a.column < b.column
+    items[k - 1].is_before(items[k])
 }
 
-fn entry_before(a: Entry, b: Entry) -> bool
-    ensures { result ≡ entry_before a b }
+// The later of the first two neighbours that do not rise.
+fn first_falling<T: Record>(items: &[T]) -> Option<usize>
+    ensures answer { result ≡ first_fall T.before items.now }
+    ensures within { IfSome result (λ k. k < length items.now) }
 {
-    a.column < b.column || a.column == b.column && a.row < b.row
+    (1..items.len()).find(|&k| !follows(items, k))
 }
 
-fn first_falling_edge(edges: &[Edge]) -> Option<usize>
-    ensures { result ≡ first_fall edge_before edges.now }
-{
-    for k in 1..edges.len() {
-        if !edge_before(edges[k - 1], edges[k]) {
-            return Some(k);
-        }
-    }
-    None
-}
-
-fn first_falling_entry(entries: &[Entry]) -> Option<usize>
-    ensures { result ≡ first_fall entry_before entries.now }
-{
-    for k in 1..entries.len() {
-        if !entry_before(entries[k - 1], entries[k]) {
-            return Some(k);
-        }
-    }
-    None
-}
-
-// The later of the first two neighbours that do not rise: edges from 0, entries from W on.
+// The first place where a table does not rise: edges from 0, entries from W on.
 pub(crate) fn order_place(edges: &[Edge], entries: &[Entry]) -> Option<usize>
     ensures { result ≡ order_place edges.now entries.now }
 {
-    if let Some(later) = first_falling_edge(edges) {
-        return Some(later);
-    }
-    if let Some(later) = first_falling_entry(entries) {
-        return Some(edges.len() + later);
-    }
-    None
+    first_falling(edges).or_else(|| first_falling(entries).map(|k| edges.len() + k))
 }

@@ -6,62 +6,40 @@ use crate::table::{Edge, Entry};
 fn same_pair(e: Edge, x: Entry) -> bool
     ensures { result ≡ same_pair e x }
 {
-    e.row == x.row && e.column == x.column
+    (e.row, e.column) == (x.row, x.column)
 }
 
+// Stays (plain): the two tables hold types of their own, and a shared form would have to name a line's pair through
+// a trait, at more length than these two lines.
 fn has_edge(edges: &[Edge], x: Entry) -> bool
     ensures { result ≡ has_edge edges.now x }
 {
-    for e in edges {
-        if same_pair(*e, x) {
-            return true;
-        }
-    }
-    false
+    edges.iter().any(|e| same_pair(*e, x))
 }
 
 fn has_entry(entries: &[Entry], e: Edge) -> bool
     ensures { result ≡ has_entry entries.now e }
 {
-    for x in entries {
-        if same_pair(e, *x) {
-            return true;
-        }
-    }
-    false
+    entries.iter().any(|x| same_pair(e, *x))
 }
 
 fn first_lone_entry(edges: &[Edge], entries: &[Entry]) -> Option<usize>
     ensures { result ≡ first_bad (has_edge edges.now) entries.now }
 {
-    for (k, x) in entries.iter().enumerate() {
-        if !has_edge(edges, *x) {
-            return Some(k);
-        }
-    }
-    None
+    entries.iter().position(|x| !has_edge(edges, *x))
 }
 
 fn some_lone_edge(edges: &[Edge], entries: &[Entry]) -> bool
     ensures { result ≡ any (lone_edge entries.now) edges.now }
 {
-    for e in edges {
-        if !has_entry(entries, *e) {
-            return true;
-        }
-    }
-    false
+    edges.iter().any(|e| !has_entry(entries, *e))
 }
 
 // The first entry without its edge, or else the number of entries where an edge lacks its entry.
 pub(crate) fn pair_place(edges: &[Edge], entries: &[Entry]) -> Option<usize>
     ensures { result ≡ pair_place edges.now entries.now }
 {
-    if let Some(k) = first_lone_entry(edges, entries) {
-        return Some(k);
-    }
-    if some_lone_edge(edges, entries) {
-        return Some(entries.len());
-    }
-    None
+    first_lone_entry(edges, entries).or_else(|| some_lone_edge(edges, entries).then_some(
+        entries.len(),
+    ))
 }

@@ -50,19 +50,11 @@ impl<'a> Code<'a> {
 fn first_fault(header: Header, edges: &[Edge], entries: &[Entry]) -> Option<CodeFault>
     ensures { result ≡ first_fault header edges.now entries.now }
 {
-    if let Some(place) = range_place(header, edges, entries) {
-        return Some(CodeFault::OutOfRange(place));
-    }
-    if let Some(place) = order_place(edges, entries) {
-        return Some(CodeFault::NotRising(place));
-    }
-    if let Some(place) = degree_place(header, edges) {
-        return Some(CodeFault::Degree(place));
-    }
-    if let Some(place) = pair_place(edges, entries) {
-        return Some(CodeFault::Unmatched(place));
-    }
-    None
+    range_place(header, edges, entries)
+        .map(CodeFault::OutOfRange)
+        .or_else(|| order_place(edges, entries).map(CodeFault::NotRising))
+        .or_else(|| degree_place(header, edges).map(CodeFault::Degree))
+        .or_else(|| pair_place(edges, entries).map(CodeFault::Unmatched))
 }
 
 // The fault that refuses a code, or none.
@@ -78,10 +70,7 @@ fn judged(header: Header, edges: &[Edge], entries: &[Entry]) -> Result<(), CodeF
     ensures law { GrantedByTheRules header edges.now entries.now result }
     ensures place { RefusedAtTheFirst header edges.now entries.now result }
 {
-    match fault_of(header, edges, entries) {
-        None => Ok(()),
-        Some(fault) => Err(fault),
-    }
+    fault_of(header, edges, entries).map_or(Ok(()), Err)
 }
 
 // Writes the code whole, or answers why it is refused and leaves it as it was.
@@ -96,9 +85,7 @@ pub fn admit<'a>(
     ensures law { GrantedByTheRules header edges.now entries.now result }
     ensures place { RefusedAtTheFirst header edges.now entries.now result }
 {
-    if let Err(fault) = judged(header, edges, entries) {
-        return Err(fault);
-    }
+    judged(header, edges, entries)?;
     *code = Code {
         header,
         edges,

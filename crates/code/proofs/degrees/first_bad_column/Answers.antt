@@ -1,11 +1,10 @@
-use Rattle.code.proofs.Searches.{come_more, come_found, come_all}
+use Rattle.std.proofs.Common.{◌≡◌, true, false, rules, tests, arith}
+use Rattle.std.proofs.lemmas.Iterator.{first_from_Range}
+use Rattle.code.specs.Admission.{column_fits}
+use Rattle.code.proofs.Searches.{found_first}
 use Rattle.code.proofs.degrees.first_bad_column.Goals as goal
 
-pub returns-then-not-column_fits : goal.returns-then-not-column_fits
-returns-then-not-column_fits c = come_found _ _ _ _ c.loop-column-test.true c.loop-column.invariant c.if-not-column_fits.ensures
-
-pub loop-column-preserved : goal.loop-column-preserved
-loop-column-preserved c = come_more _ _ _ _ c.loop-column-test.true c.loop-column.invariant c.if-not-column_fits.ensures
-
 pub returns : goal.returns
-returns c = come_all _ _ _ _ c.loop-column-test.false c.loop-column.invariant
+returns c =
+    let fits = column_fits c.args.edges.now in
+    found_first fits 0 c.args.columns c.args.columns c.find.result (omega arith) (first_from_Range _ _ _ c.find.result (λ i. fits i ≡ false) (λ i. fits i ≡ true) c.find.ensures.ran (λ x q k. search (rules, tests)) (λ x q k. search (rules, tests)))

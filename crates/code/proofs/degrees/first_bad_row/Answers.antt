@@ -1,11 +1,10 @@
-use Rattle.code.proofs.Searches.{come_more, come_found, come_all}
+use Rattle.std.proofs.Common.{◌≡◌, true, false, rules, tests, arith}
+use Rattle.std.proofs.lemmas.Iterator.{first_from_Range}
+use Rattle.code.specs.Admission.{row_fits}
+use Rattle.code.proofs.Searches.{found_first}
 use Rattle.code.proofs.degrees.first_bad_row.Goals as goal
 
-pub returns-then-not-row_fits : goal.returns-then-not-row_fits
-returns-then-not-row_fits c = come_found _ _ _ _ c.loop-row-test.true c.loop-row.invariant c.if-not-row_fits.ensures
-
-pub loop-row-preserved : goal.loop-row-preserved
-loop-row-preserved c = come_more _ _ _ _ c.loop-row-test.true c.loop-row.invariant c.if-not-row_fits.ensures
-
 pub returns : goal.returns
-returns c = come_all _ _ _ _ c.loop-row-test.false c.loop-row.invariant
+returns c =
+    let fits = row_fits c.args.edges.now in
+    found_first fits 0 c.args.rows c.args.rows c.find.result (omega arith) (first_from_Range _ _ _ c.find.result (λ i. fits i ≡ false) (λ i. fits i ≡ true) c.find.ensures.ran (λ x q k. search (rules, tests)) (λ x q k. search (rules, tests)))

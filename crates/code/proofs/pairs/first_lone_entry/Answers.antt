@@ -1,13 +1,11 @@
-use Rattle.std.proofs.Common.{sym, ◌∙◌}
-use Rattle.code.proofs.Searches.{come_more, come_found, come_all, at_here}
+use Rattle.std.proofs.Common.{rules, tests, not, ◌∙◌}
+use Rattle.std.proofs.lemmas.Iterator.{YieldsList-from_slice}
+use Rattle.std.proofs.lemmas.Iterator.Search.{position_from_yields_List}
+use Rattle.code.specs.Admission.{has_edge}
+use Rattle.code.proofs.Searches.{position_bad}
 use Rattle.code.proofs.pairs.first_lone_entry.Goals as goal
 
-pub returns-then-not-has_edge : goal.returns-then-not-has_edge
-returns-then-not-has_edge c =
-    come_found _ _ _ _ c.loop-k-test.true c.loop-k.invariant (c.if-not-has_edge.ensures ∙ sym (at_here _ _ _ _ c.loop-k-test.true))
-
-pub loop-k-preserved : goal.loop-k-preserved
-loop-k-preserved c = come_more _ _ _ _ c.loop-k-test.true c.loop-k.invariant (c.if-not-has_edge.ensures ∙ sym (at_here _ _ _ _ c.loop-k-test.true))
-
 pub returns : goal.returns
-returns c = come_all _ _ _ _ c.loop-k-test.false c.loop-k.invariant
+returns c =
+    let fits = has_edge c.args.edges.now in
+    position_from_yields_List (λ x. not (fits x)) _ _ c.position.result c.position.ensures.ran (YieldsList-from_slice _ c.iter.ensures.rest) (λ x b q k. search (rules, tests)) ∙ position_bad fits c.args.entries.now

@@ -1,12 +1,9 @@
+use Rattle.std.proofs.Common.{rules, tests, ◌∙◌}
+use Rattle.std.proofs.lemmas.Iterator.{YieldsList-from_slice}
+use Rattle.std.proofs.lemmas.Iterator.Search.{any_from_yields_List}
 use Rattle.code.specs.Admission.{same_pair}
-use Rattle.code.proofs.Counts.{missed_more, missed_found, missed_all}
+use Rattle.code.proofs.Searches.{any_list}
 use Rattle.code.proofs.pairs.has_entry.Goals as goal
 
-pub returns-then-same_pair : goal.returns-then-same_pair
-returns-then-same_pair c = missed_found (same_pair c.args.e) _ _ _ c.loop-x-test.true c.loop-x.invariant c.if-same_pair.ensures
-
-pub loop-x-preserved : goal.loop-x-preserved
-loop-x-preserved c = missed_more (same_pair c.args.e) _ _ _ c.loop-x-test.true c.loop-x.invariant c.if-same_pair.ensures
-
 pub returns : goal.returns
-returns c = missed_all (same_pair c.args.e) _ _ c.loop-x-test.false c.loop-x.invariant
+returns c = any_from_yields_List (same_pair c.args.e) _ _ _ c.any.ensures.ran (YieldsList-from_slice _ c.iter.ensures.rest) (λ x b q k. search (rules, tests)) ∙ any_list (same_pair c.args.e) c.args.entries.now
