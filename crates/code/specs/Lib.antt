@@ -1,6 +1,7 @@
 pub mod Admission
 pub mod Faults
 pub mod Laws
+pub mod Numbers
 pub mod Places
 pub mod Rules
 pub mod Texts

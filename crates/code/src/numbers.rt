@@ -1,6 +1,8 @@
-ghost use Rattle.std.specs.Prelude.{Some};
+ghost use Rattle.std.specs.Prelude.{◌≡◌, Some};
+ghost use Rattle.code.specs.Numbers.{numbers_of, header_in};
 ghost use Rattle.code.specs.Texts.{numbers_text};
 
+use crate::table::Header;
 use std::fmt;
 
 // The numbers of a code: its order q, N columns, M rows, W edges, the ceiling C of costs and the limit L of rounds.
@@ -12,6 +14,35 @@ pub struct Numbers {
     pub edges: usize,
     pub ceiling: u16,
     pub limit: u16,
+}
+
+impl Numbers {
+    // A header's numbers, with the number of edges.
+    pub fn new(header: Header, edges: usize) -> Numbers
+        ensures answer { result ≡ numbers_of header edges }
+    {
+        Numbers {
+            order: header.order,
+            columns: header.columns,
+            rows: header.rows,
+            edges,
+            ceiling: header.ceiling,
+            limit: header.limit,
+        }
+    }
+
+    // The header that these numbers are of.
+    pub fn header(self) -> Header
+        ensures answer { result ≡ header_in self }
+    {
+        Header {
+            order: self.order,
+            columns: self.columns,
+            rows: self.rows,
+            ceiling: self.ceiling,
+            limit: self.limit,
+        }
+    }
 }
 
 impl fmt::Display for Numbers {

@@ -1,7 +1,10 @@
 -- A text cut into pieces: its first piece, and what is left behind it.
-use Rattle.std.proofs.Common.{◌≡◌, ℕ, suc, ◌+◌, ◌-◌, ◌<◌, ◌≤◌, Bool, true, false, eqb, List, [], ◌∷◌, length, get_or, take, drop, sym, refl, ap, ◌∙◌, arith}
+use Rattle.std.proofs.Common.{◌≡◌, ℕ, suc, ◌+◌, ◌-◌, ◌<◌, ◌≤◌, Bool, true, false, cond, eqb, ltb, List, [], ◌∷◌, length, get_or, take, drop, count_by, Some, None, Option, sym, refl, ap, ◌∙◌, arith}
 use Rattle.std.proofs.lemmas.List.{at_drop_more, at_drop_all}
-use Rattle.std.proofs.lemmas.Bool.{eq-eqb, ne_eqb}
+use Rattle.std.proofs.lemmas.List.Recursion.{is_position_or_len, is_count_by}
+use Rattle.std.specs.List.{position_or_len}
+use Rattle.std.specs.Option.{unwrap_or}
+use Rattle.std.proofs.lemmas.Bool.{eq-eqb, ne_eqb, ltb-false}
 use Rattle.sheet.specs.Pieces.{cut, split, first}
 
 -- one byte before the pieces
@@ -65,6 +68,39 @@ pub split_last : (c : ℕ) (bs : List ℕ) → length bs ≤ length (first c bs)
 unfolding split
 split_last c [] h = refl
 split_last c (b ∷ bs) h = last_cut (eqb b c) b bs (split c bs) (split_some c bs) (split_last c bs) h
+
+-- the first piece ends at the first cut, and there is one piece more than cuts
+size_cut : (t : Bool) (b : ℕ) (ps : List (List ℕ)) → ps ≡ get_or ps 0 [] ∷ drop 1 ps → length (get_or (cut t b ps) 0 []) ≡ cond t 0 (1 + length (get_or ps 0 []))
+size_cut true b ps e = refl
+size_cut false b [] e = absurd (let z : ◌≡◌ {A = ℕ} 0 1 = cc in omega arith)
+size_cut false b (p ∷ ps) e = omega arith
+
+pub first_size : (c : ℕ) (bs : List ℕ) → length (first c bs) ≡ position_or_len (λ b. eqb b c) bs
+unfolding split
+first_size c = is_position_or_len (λ bs. length (first c bs)) (λ b. eqb b c) refl (λ b bs. size_cut (eqb b c) b (split c bs) (split_some c bs))
+
+-- the first place where a byte passes, or the end
+met : (t : Bool) (n m : ℕ) → ltb n m ≡ t → n ≤ m → unwrap_or (cond t (Some n) None) m ≡ n
+met true n m e h = refl
+met false n m e h = omega (arith, ltb-false n m e)
+
+pub met_first : (c n : ℕ) (bs : List ℕ) (o : Option ℕ) → o ≡ cond (ltb (position_or_len (λ b. eqb b c) bs) (length bs)) (Some (position_or_len (λ b. eqb b c) bs)) None → n ≡ unwrap_or o (length bs) → n ≡ length (first c bs)
+met_first c n bs o e f =
+    let k = position_or_len (λ b. eqb b c) bs in
+    f ∙ ap (λ v. unwrap_or v (length bs)) e ∙ met (ltb k (length bs)) k (length bs) refl (omega (arith, first_size c bs, first_within c bs)) ∙ sym (first_size c bs)
+
+count_cut : (t : Bool) (b : ℕ) (ps : List (List ℕ)) → ps ≡ get_or ps 0 [] ∷ drop 1 ps → length (cut t b ps) - 1 ≡ cond t (1 + (length ps - 1)) (length ps - 1)
+count_cut true b [] e = absurd (let z : ◌≡◌ {A = ℕ} 0 1 = cc in omega arith)
+count_cut true b (p ∷ ps) e = omega arith
+count_cut false b [] e = absurd (let z : ◌≡◌ {A = ℕ} 0 1 = cc in omega arith)
+count_cut false b (p ∷ ps) e = refl
+
+cuts : (c : ℕ) (bs : List ℕ) → length (split c bs) - 1 ≡ count_by (λ b. eqb b c) bs
+unfolding split
+cuts c = is_count_by (λ bs. length (split c bs) - 1) (λ b. eqb b c) refl (λ b bs. count_cut (eqb b c) b (split c bs) (split_some c bs))
+
+pub split_count : (c : ℕ) (bs : List ℕ) → length (split c bs) ≡ count_by (λ b. eqb b c) bs + 1
+split_count c bs = omega (arith, cuts c bs, ap length (split_some c bs))
 
 -- one turn of a loop that looks for the cut, or counts the pieces
 pub split_stop : (c : ℕ) (bs : List ℕ) (i : ℕ) → i < length bs → get_or bs i 0 ≡ c → split c (drop i bs) ≡ [] ∷ split c (drop (i + 1) bs)

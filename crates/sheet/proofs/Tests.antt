@@ -1,15 +1,16 @@
 -- Tests one after another, and the kind of record that is due.
 use Rattle.std.proofs.Common.{◌≡◌, ℕ, ◌<◌, ◌≤◌, Bool, true, false, cond, ◌&&◌, eqb, ltb, leb, List, [], length, get_or, Some, None, Ok, Err, Option, Result, sym, refl, ap, ◌∙◌, arith}
 use Rattle.std.proofs.lemmas.Bool.{false≢true, cond-true, cond-false, and_from, and_left, and_right, and_parts, eq-eqb, ne_eqb, eqb-true, leb-true, ltb-true}
+use Rattle.std.specs.Option.{ok_or}
 use Rattle.sheet.specs.declared.fault.Place.{Place}
 use Rattle.sheet.specs.declared.fault.SheetFault.{SheetFault}
-use Rattle.sheet.specs.declared.fault.SheetFault.TheVariants.{NotDue, OutOfRange}
+use Rattle.sheet.specs.declared.fault.SheetFault.TheVariants.{NotDue, NotWritten, OutOfRange}
 use Rattle.sheet.specs.declared.token.Kind.{Kind}
 use Rattle.sheet.specs.declared.token.Kind.TheVariants as kind
 use Rattle.sheet.specs.declared.line.Due.{Due}
 use Rattle.sheet.specs.declared.line.Due.TheVariants as due
 use Rattle.sheet.specs.Words.{letter, number, dash, word_of, Cell, kind_of, record_kind}
-use Rattle.sheet.specs.Lines.{◌>>=◌, place_of, ranged, arity, is_due, or_not_due, kind_due}
+use Rattle.sheet.specs.Lines.{◌>>=◌, place_of, ranged, arity, is_due, or_not_written, or_not_due, kind_due}
 
 -- a test that passes, and one that tells
 pub on : {A B E : Type 0} {x : Result A E} (f : A → Result B E) {a : A} {r : Result B E} → Ok a ≡ x → r ≡ f a → r ≡ (x >>= f)
@@ -28,6 +29,18 @@ pub passed : {A B E : Type 0} (x : Result A E) (f : A → Result B E) (b : B) �
 unfolding ◌>>=◌
 passed (Ok a) f b e = (a, refl, e)
 passed (Err g) f b e = absurd (let z : ◌≡◌ {A = ℕ} 0 1 = cc in omega arith)
+
+pub written_or : (o : Option ℕ) (p : Place) → ok_or o (NotWritten p) ≡ or_not_written o p
+written_or None p = refl
+written_or (Some n) p = refl
+
+pub due_some : (o : Option Kind) (k : Kind) (f : SheetFault) → Ok k ≡ ok_or o f → Some k ≡ o
+due_some None k f e = absurd (let z : ◌≡◌ {A = ℕ} 0 1 = cc in omega arith)
+due_some (Some j) k f e = ap Some cc
+
+pub due_err : (d : Due) (p : Place) (n : ℕ) (o q : Option Kind) (f : SheetFault) → Err f ≡ ok_or o (NotDue p) → o ≡ q → Err f ≡ or_not_due q d p n
+due_err d p n None q f e g = e ∙ ap (λ v. or_not_due v d p n) g
+due_err d p n (Some j) q f e g = absurd (let z : ◌≡◌ {A = ℕ} 0 1 = cc in omega arith)
 
 pub due_ok : (d : Due) (p : Place) (k : Kind) (n : ℕ) (o : Option Kind) → Some k ≡ o → is_due d k ≡ true → n ≡ arity k → Ok k ≡ or_not_due o d p n
 due_ok d p k n o e h g = sym (cond-true (is_due d k && eqb n (arity k)) (Ok k) (Err (NotDue p)) (and_from _ _ h (eq-eqb _ _ g))) ∙ ap (λ v. or_not_due v d p n) e

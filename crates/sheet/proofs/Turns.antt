@@ -1,7 +1,9 @@
 -- One turn of the loops over a number's digits.
-use Rattle.std.proofs.Common.{◌≡◌, ℕ, zero, suc, ◌+◌, ◌-◌, ◌*◌, ◌^◌, ◌<◌, ◌≤◌, true, false, ◌&&◌, List, length, get_or, drop, sym, ap, ◌∙◌, arith}
+use Rattle.std.proofs.Common.{◌≡◌, ℕ, zero, suc, ◌+◌, ◌-◌, ◌*◌, ◌^◌, ◌<◌, ◌≤◌, true, false, ◌&&◌, List, [], ◌∷◌, length, get_or, drop, sym, refl, ap, ◌∙◌, arith}
 use Rattle.std.proofs.lemmas.List.{at_drop_more}
 use Rattle.std.proofs.lemmas.Bool.{and_parts, leb-true}
+use Rattle.std.specs.Char.{is_ascii_digit}
+use Rattle.std.specs.List.{list_all}
 use Rattle.sheet.specs.Words.{digit, digits, value}
 
 pub digits_more : (xs : List ℕ) (i : ℕ) → i < length xs → true ≡ digit (get_or xs i 0) → digits (drop i xs) ≡ digits (drop (i + 1) xs)
@@ -27,3 +29,7 @@ digits_at xs i h e =
 
 pub value_more : (xs : List ℕ) (i v : ℕ) → i < length xs → value v (drop i xs) ≡ value (v * 10 + (get_or xs i 0 - 48)) (drop (i + 1) xs)
 value_more xs i v h = at_drop_more (value v) xs i 0 h
+
+pub all_digits_list : (xs : List ℕ) → list_all is_ascii_digit xs ≡ digits xs
+all_digits_list [] = refl
+all_digits_list (x ∷ xs) = ap (λ b. digit x && b) (all_digits_list xs)

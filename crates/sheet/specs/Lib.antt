@@ -4,3 +4,4 @@ pub mod Faults
 pub mod Lines
 pub mod Reading
 pub mod Grammar
+pub mod Texts

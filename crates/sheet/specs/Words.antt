@@ -33,7 +33,7 @@ pub record Cell : Type 0 where
   pub byte : ℕ
 
 abbrev pub seen : Part → Cell
-seen p = record { word = word p.token; line = p.line; byte = p.byte }
+seen p = record { word = word p.token; line = p.place.line; byte = p.place.byte }
 
 abbrev pub digit : ℕ → Bool
 digit b = nat_le 48 b && nat_le b 57

@@ -1,8 +1,10 @@
-ghost use Rattle.std.specs.Prelude.{◌≡◌};
+ghost use Rattle.std.specs.Prelude.{◌≡◌, Some};
+ghost use Rattle.sheet.specs.declared.fault.SheetFault.TheVariants.{Refused};
 ghost use Rattle.sheet.specs.Faults.{number_of, layer_of, spot_of};
-ghost use Rattle.code.specs.Faults.{number as code_number, place as code_place};
+ghost use Rattle.sheet.specs.Texts.{layer_text, spot_text, fault_text};
 
 use code::fault::CodeFault;
+use std::fmt;
 
 // A place in the text: its line, from 1, and its byte, from 0.
 #[derive(Clone, Copy, PartialEq, Eq, Debug)]
@@ -43,28 +45,6 @@ pub enum Spot {
     Table(usize),
 }
 
-fn code_number(fault: CodeFault) -> u8
-    ensures answer { result ≡ code_number fault }
-{
-    match fault {
-        CodeFault::OutOfRange(_) => 12,
-        CodeFault::NotRising(_) => 13,
-        CodeFault::Degree(_) => 14,
-        CodeFault::Unmatched(_) => 15,
-    }
-}
-
-fn code_place(fault: CodeFault) -> usize
-    ensures answer { result ≡ code_place fault }
-{
-    match fault {
-        CodeFault::OutOfRange(position) => position,
-        CodeFault::NotRising(position) => position,
-        CodeFault::Degree(position) => position,
-        CodeFault::Unmatched(position) => position,
-    }
-}
-
 impl SheetFault {
     // The fault's number, 10 to 17.
     pub fn number(self) -> u8
@@ -76,7 +56,7 @@ impl SheetFault {
             SheetFault::NotWritten(_) => 11,
             SheetFault::OutOfRange(_) => 12,
             SheetFault::Full(_) => 17,
-            SheetFault::Refused(fault) => code_number(fault),
+            SheetFault::Refused(fault) => fault.number(),
         }
     }
 
@@ -85,11 +65,8 @@ impl SheetFault {
         ensures answer { result ≡ layer_of self }
     {
         match self {
-            SheetFault::Ends(_) => Layer::Text,
-            SheetFault::NotDue(_) => Layer::Text,
-            SheetFault::NotWritten(_) => Layer::Text,
-            SheetFault::OutOfRange(_) => Layer::Record,
-            SheetFault::Full(_) => Layer::Record,
+            SheetFault::Ends(_) | SheetFault::NotDue(_) | SheetFault::NotWritten(_) => Layer::Text,
+            SheetFault::OutOfRange(_) | SheetFault::Full(_) => Layer::Record,
             SheetFault::Refused(_) => Layer::Code,
         }
     }
@@ -99,12 +76,54 @@ impl SheetFault {
         ensures answer { result ≡ spot_of self }
     {
         match self {
-            SheetFault::Ends(place) => Spot::Text(place),
-            SheetFault::NotDue(place) => Spot::Text(place),
-            SheetFault::NotWritten(place) => Spot::Text(place),
-            SheetFault::OutOfRange(place) => Spot::Text(place),
-            SheetFault::Full(place) => Spot::Text(place),
-            SheetFault::Refused(fault) => Spot::Table(code_place(fault)),
+            SheetFault::Ends(place)
+            | SheetFault::NotDue(place)
+            | SheetFault::NotWritten(place)
+            | SheetFault::OutOfRange(place)
+            | SheetFault::Full(place) => Spot::Text(place),
+            SheetFault::Refused(fault) => Spot::Table(fault.place()),
         }
+    }
+}
+
+impl From<CodeFault> for SheetFault {
+    ghost from_gives = { λ fault told. told ≡ Refused fault };
+
+    fn from(fault: CodeFault) -> SheetFault {
+        Self::Refused(fault)
+    }
+}
+
+impl fmt::Display for Layer {
+    ghost output = { λ layer. Some (layer_text layer) };
+
+    fn fmt<W: fmt::Write>(&self, f: &mut fmt::Formatter<W>) -> fmt::Result {
+        f.write_str(match self {
+            Layer::Text => "text",
+            Layer::Record => "record",
+            Layer::Code => "code",
+        })
+    }
+}
+
+impl fmt::Display for Spot {
+    ghost output = { λ spot. Some (spot_text spot) };
+
+    fn fmt<W: fmt::Write>(&self, f: &mut fmt::Formatter<W>) -> fmt::Result {
+        match *self {
+            Spot::Text(Place { line, byte }) => write!(f, "{line}\t{byte}"),
+            Spot::Table(position) => write!(f, "{position}"),
+        }
+    }
+}
+
+impl fmt::Display for SheetFault {
+    ghost output = { λ fault. Some (fault_text fault) };
+
+    fn fmt<W: fmt::Write>(&self, f: &mut fmt::Formatter<W>) -> fmt::Result {
+        let number = self.number();
+        let layer = self.layer();
+        let spot = self.spot();
+        write!(f, "{number}\t{layer}\t{spot}")
     }
 }

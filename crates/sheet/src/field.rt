@@ -1,38 +1,12 @@
-ghost use Rattle.std.specs.Prelude.{◌≡◌, ◌+◌, ◌^◌, ◌<◌, ◌≤◌, [], length, slice_index};
-ghost use Rattle.sheet.specs.Pieces.{split, first};
-ghost use Rattle.sheet.specs.Words.{word, word_of, bytes_of, seen, kind_of, record_kind};
-ghost use Rattle.sheet.specs.Lines.{place_of, cell_at, as_number, as_ceiling, numeral, ceiling_of, in_range, ranged};
+ghost use Rattle.std.specs.Prelude.{◌≡◌, ◌+◌, ◌^◌, ◌<◌, ◌≤◌, length, slice_index};
+ghost use Rattle.sheet.specs.Pieces.{fields};
+ghost use Rattle.sheet.specs.Words.{word, word_of, seen, kind_of, record_kind};
+ghost use Rattle.sheet.specs.Lines.{cell, cell_at, as_number, as_ceiling, numeral, ceiling_of, in_range, ranged};
 
 use crate::fault::{Place, SheetFault};
 use crate::number::decimal;
+use crate::pieces::{pieces, until};
 use crate::token::{Kind, Part, Token};
-
-// How many bytes stand before the first `stop`, or in all.
-pub fn until(bytes: &[u8], stop: u8) -> usize
-    ensures value { result ≡ length (first stop bytes.now) }
-    ensures within { result ≤ length bytes.now }
-{
-    for (n, b) in bytes.iter().enumerate() {
-        if *b == stop {
-            return n;
-        }
-    }
-    bytes.len()
-}
-
-// How many pieces there are between the bytes `stop`.
-pub fn pieces(bytes: &[u8], stop: u8) -> usize
-    requires { length bytes.now + 1 < 2 ^ 64 }
-    ensures { result ≡ length (split stop bytes.now) }
-{
-    let mut n = 1;
-    for b in bytes {
-        if *b == stop {
-            n += 1;
-        }
-    }
-    n
-}
 
 // A field by its kind; what is neither a letter nor a dash is held to be a number.
 fn token<'a>(bytes: &'a [u8]) -> Token<'a>
@@ -50,44 +24,55 @@ fn token<'a>(bytes: &'a [u8]) -> Token<'a>
 fn in_range(low: u16, limit: u16, n: u16) -> bool
     ensures { result ≡ in_range low limit n }
 {
-    low <= n && n < limit
+    (low..limit).contains(&n)
 }
 
-// The field that starts at byte `from` of a line, which starts at `place`.
-pub fn part<'a>(line: &'a [u8], place: Place, from: usize) -> Part<'a>
-    requires { (from ≤ length line.now) × (place.byte + length line.now < 2 ^ 64) }
-    ensures { seen result ≡ cell_at place line.now from }
-{
-    let rest = &line[from..];
-    let n = until(rest, b'\t');
-    Part {
-        token: token(&rest[0..n]),
-        line: place.line,
-        byte: place.byte + from,
+// A line's bytes, and where it starts in the text.
+#[derive(Clone, Copy)]
+pub struct Line<'a> {
+    pub bytes: &'a [u8],
+    pub place: Place,
+    ghost ends: { place.byte + length bytes.now + 1 < 2 ^ 64 },
+}
+
+impl<'a> Line<'a> {
+    // How many fields the line has.
+    pub fn count(self) -> usize
+        ensures { result ≡ length (fields self.entry.bytes.now) }
+    {
+        pieces(self.bytes, b'\t')
+    }
+
+    // The field that starts at a byte of the line.
+    pub fn part(self, from: usize) -> Part<'a>
+        requires { from ≤ length self.bytes.now }
+        ensures { seen result ≡ cell_at self.entry.place self.entry.bytes.now from }
+    {
+        let rest = &self.bytes[from..];
+        let n = until(rest, b'\t');
+        Part {
+            token: token(&rest[0..n]),
+            place: Place {
+                line: self.place.line,
+                byte: self.place.byte + from,
+            },
+        }
+    }
+
+    // Field i of the line, from 0.
+    pub fn field(self, i: usize) -> Part<'a>
+        requires { i < length (fields self.bytes.now) }
+        ensures { seen result ≡ cell self.entry.place (fields self.entry.bytes.now) i }
+    {
+        let mut from = 0;
+        for _ in 0..i {
+            from += until(&self.bytes[from..], b'\t') + 1;
+        }
+        self.part(from)
     }
 }
 
 impl Part<'_> {
-    // How many bytes the field has.
-    pub fn len(&self) -> usize
-        ensures { result ≡ length (bytes_of (seen self.now).word) }
-    {
-        match self.token {
-            Token::Letter(bytes) => bytes.len(),
-            Token::Number(bytes) => bytes.len(),
-            Token::Dash(bytes) => bytes.len(),
-        }
-    }
-
-    fn place(&self) -> Place
-        ensures { result ≡ place_of (seen self.now) }
-    {
-        Place {
-            line: self.line,
-            byte: self.byte,
-        }
-    }
-
     fn plain(&self) -> Option<u16>
         ensures { result ≡ as_number (seen self.now).word }
     {
@@ -102,9 +87,8 @@ impl Part<'_> {
         ensures { result ≡ as_ceiling (seen self.now).word }
     {
         match self.token {
-            Token::Letter(_) => None,
-            Token::Number(bytes) => decimal(bytes),
             Token::Dash(_) => Some(31),
+            _ => self.plain(),
         }
     }
 
@@ -112,20 +96,15 @@ impl Part<'_> {
     pub fn number(&self) -> Result<u16, SheetFault>
         ensures { result ≡ numeral (seen self.now) }
     {
-        match self.plain() {
-            Some(n) => Ok(n),
-            None => Err(SheetFault::NotWritten(self.place())),
-        }
+        self.plain().ok_or(SheetFault::NotWritten(self.place))
     }
 
     // The same of a ceiling, where a dash says 31.
     pub fn ceiling(&self) -> Result<u16, SheetFault>
         ensures { result ≡ ceiling_of (seen self.now) }
     {
-        match self.plain_or_dash() {
-            Some(n) => Ok(n),
-            None => Err(SheetFault::NotWritten(self.place())),
-        }
+        self.plain_or_dash()
+            .ok_or(SheetFault::NotWritten(self.place))
     }
 
     // 12 unless the field's number n is at least low and below limit.
@@ -135,7 +114,7 @@ impl Part<'_> {
         if in_range(low, limit, n) {
             Ok(())
         } else {
-            Err(SheetFault::OutOfRange(self.place()))
+            Err(SheetFault::OutOfRange(self.place))
         }
     }
 
@@ -145,8 +124,7 @@ impl Part<'_> {
     {
         match self.token {
             Token::Letter(bytes) => kind_of(bytes),
-            Token::Number(_) => None,
-            Token::Dash(_) => None,
+            _ => None,
         }
     }
 }
@@ -154,10 +132,7 @@ impl Part<'_> {
 fn kind_of(bytes: &[u8]) -> Option<Kind>
     ensures { result ≡ kind_of (slice_index bytes.now 0) }
 {
-    if bytes.len() == 0 {
-        return None;
-    }
-    match bytes[0] as char {
+    match *bytes.first()? as char {
         'C' => Some(Kind::Header),
         'E' => Some(Kind::Edge),
         'K' => Some(Kind::Entry),

@@ -1,10 +1,10 @@
-ghost use Rattle.std.specs.Prelude.{◌≡◌, ◌+◌, ◌^◌, ◌<◌, ◌≤◌, [], length, IfOk, slice_index_or};
+ghost use Rattle.std.specs.Prelude.{◌≡◌, ◌≤◌, length, IfOk};
 ghost use Rattle.sheet.specs.Pieces.{fields};
 ghost use Rattle.sheet.specs.Words.{seen};
 ghost use Rattle.sheet.specs.Lines.{arity, is_due, kind_due, header_of, edge_of, entry_of, header_from, edge_from, entry_from, header_line, record_line};
 
-use crate::fault::{Place, SheetFault};
-use crate::field::{part, pieces};
+use crate::fault::SheetFault;
+use crate::field::Line;
 use crate::token::{Kind, Part};
 use code::table::{Edge, Entry, Header};
 
@@ -39,32 +39,24 @@ fn fields_of(kind: Kind) -> usize
 fn is_due(due: Due, kind: Kind) -> bool
     ensures { result ≡ is_due due kind }
 {
-    match (due, kind) {
-        (Due::Header, Kind::Header) => true,
-        (Due::Edge, Kind::Edge) => true,
-        (Due::EdgeOrEntry, Kind::Edge) => true,
-        (Due::EdgeOrEntry, Kind::Entry) => true,
-        (Due::EntryOrEnd, Kind::Entry) => true,
-        (Due::EntryOrEnd, Kind::End) => true,
-        _ => false,
-    }
+    matches!(
+        (due, kind),
+        (Due::Header, Kind::Header)
+            | (Due::Edge | Due::EdgeOrEntry, Kind::Edge)
+            | (Due::EdgeOrEntry | Due::EntryOrEnd, Kind::Entry)
+            | (Due::EntryOrEnd, Kind::End)
+    )
 }
 
 // The kind of the line's record; 10 unless it is due and has its number of fields.
-fn kind_due(line: &[u8], place: Place, due: Due) -> Result<Kind, SheetFault>
-    requires { place.byte + length line.now + 1 < 2 ^ 64 }
-    ensures { result ≡ kind_due due place (fields line.now) }
+fn kind_due(line: Line, due: Due) -> Result<Kind, SheetFault>
+    ensures { result ≡ kind_due due line.entry.place (fields line.entry.bytes.now) }
 {
-    let letter = part(line, place, 0);
-    match letter.kind() {
-        None => Err(SheetFault::NotDue(place)),
-        Some(kind) => {
-            if is_due(due, kind) && pieces(line, b'\t') == fields_of(kind) {
-                Ok(kind)
-            } else {
-                Err(SheetFault::NotDue(place))
-            }
-        }
+    let kind = line.part(0).kind().ok_or(SheetFault::NotDue(line.place))?;
+    if is_due(due, kind) && line.count() == fields_of(kind) {
+        Ok(kind)
+    } else {
+        Err(SheetFault::NotDue(line.place))
     }
 }
 
@@ -119,77 +111,53 @@ fn entry_of(header: Header, c: &Part, r: &Part) -> Result<Entry, SheetFault>
     Ok(Entry { column, row })
 }
 
-fn header_from(line: &[u8], place: Place) -> Result<Header, SheetFault>
-    requires count { length (fields line.now) ≡ 6 }
-    requires letter { length (slice_index_or (fields line.now) 0 []) ≡ 1 }
-    requires fits { place.byte + length line.now + 1 < 2 ^ 64 }
-    ensures answer { result ≡ header_from place (fields line.now) }
+fn header_from(line: Line) -> Result<Header, SheetFault>
+    requires { length (fields line.bytes.now) ≡ 6 }
+    ensures answer { result ≡ header_from line.entry.place (fields line.entry.bytes.now) }
     ensures small { IfOk result (λ h. h.order ≤ 64) }
 {
-    let q = part(line, place, 2);
-    let at = 2 + q.len() + 1;
-    let n = part(line, place, at);
-    let at = at + n.len() + 1;
-    let m = part(line, place, at);
-    let at = at + m.len() + 1;
-    let c = part(line, place, at);
-    let at = at + c.len() + 1;
-    let l = part(line, place, at);
-    header_of(&q, &n, &m, &c, &l)
+    header_of(
+        &line.field(1),
+        &line.field(2),
+        &line.field(3),
+        &line.field(4),
+        &line.field(5),
+    )
 }
 
-fn edge_from(line: &[u8], place: Place, header: Header) -> Result<Edge, SheetFault>
-    requires count { length (fields line.now) ≡ 4 }
-    requires letter { length (slice_index_or (fields line.now) 0 []) ≡ 1 }
-    requires fits { place.byte + length line.now + 1 < 2 ^ 64 }
+fn edge_from(line: Line, header: Header) -> Result<Edge, SheetFault>
+    requires count { length (fields line.bytes.now) ≡ 4 }
     requires small { header.order ≤ 64 }
-    ensures { result ≡ edge_from header place (fields line.now) }
+    ensures { result ≡ edge_from header line.entry.place (fields line.entry.bytes.now) }
 {
-    let row = part(line, place, 2);
-    let at = 2 + row.len() + 1;
-    let column = part(line, place, at);
-    let at = at + column.len() + 1;
-    let coefficient = part(line, place, at);
-    edge_of(header, &row, &column, &coefficient)
+    edge_of(header, &line.field(1), &line.field(2), &line.field(3))
 }
 
-fn entry_from(line: &[u8], place: Place, header: Header) -> Result<Entry, SheetFault>
-    requires count { length (fields line.now) ≡ 3 }
-    requires letter { length (slice_index_or (fields line.now) 0 []) ≡ 1 }
-    requires fits { place.byte + length line.now + 1 < 2 ^ 64 }
-    ensures { result ≡ entry_from header place (fields line.now) }
+fn entry_from(line: Line, header: Header) -> Result<Entry, SheetFault>
+    requires { length (fields line.bytes.now) ≡ 3 }
+    ensures { result ≡ entry_from header line.entry.place (fields line.entry.bytes.now) }
 {
-    let column = part(line, place, 2);
-    let at = 2 + column.len() + 1;
-    let row = part(line, place, at);
-    entry_of(header, &column, &row)
+    entry_of(header, &line.field(1), &line.field(2))
 }
 
 // The header that a sheet begins with.
-pub fn header_line(line: &[u8], place: Place) -> Result<Header, SheetFault>
-    requires { place.byte + length line.now + 1 < 2 ^ 64 }
-    ensures answer { result ≡ header_line place (fields line.now) }
+pub fn header_line(line: Line) -> Result<Header, SheetFault>
+    ensures answer { result ≡ header_line line.entry.place (fields line.entry.bytes.now) }
     ensures small { IfOk result (λ h. h.order ≤ 64) }
 {
-    let _ = kind_due(line, place, Due::Header)?;
-    header_from(line, place)
+    let _ = kind_due(line, Due::Header)?;
+    header_from(line)
 }
 
 // The record of a later line.
-pub fn record_line(
-    line: &[u8],
-    place: Place,
-    due: Due,
-    header: Header,
-) -> Result<Record, SheetFault>
-    requires fits { place.byte + length line.now + 1 < 2 ^ 64 }
-    requires small { header.order ≤ 64 }
-    ensures { result ≡ record_line due header place (fields line.now) }
+pub fn record_line(line: Line, due: Due, header: Header) -> Result<Record, SheetFault>
+    requires { header.order ≤ 64 }
+    ensures { result ≡ record_line due header line.entry.place (fields line.entry.bytes.now) }
 {
-    match kind_due(line, place, due)? {
-        Kind::Header => Err(SheetFault::NotDue(place)),
-        Kind::Edge => Ok(Record::Edge(edge_from(line, place, header)?)),
-        Kind::Entry => Ok(Record::Entry(entry_from(line, place, header)?)),
+    match kind_due(line, due)? {
+        Kind::Header => Err(SheetFault::NotDue(line.place)),
+        Kind::Edge => Ok(Record::Edge(edge_from(line, header)?)),
+        Kind::Entry => Ok(Record::Entry(entry_from(line, header)?)),
         Kind::End => Ok(Record::End),
     }
 }

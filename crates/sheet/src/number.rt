@@ -1,23 +1,14 @@
 ghost use Rattle.std.specs.Prelude.{◌≡◌, ◌<◌, ◌≤◌, true, length};
-ghost use Rattle.sheet.specs.Words.{digit, digits, value, written, decimal_of};
-
-fn is_digit(b: u8) -> bool
-    ensures { result ≡ digit b }
-{
-    b'0' <= b && b <= b'9'
-}
+ghost use Rattle.sheet.specs.Words.{digits, value, written, decimal_of};
 
 fn all_digits(bytes: &[u8]) -> bool
     ensures { result ≡ digits bytes.now }
 {
-    for b in bytes {
-        if !is_digit(*b) {
-            return false;
-        }
-    }
-    true
+    bytes.iter().all(|b| b.is_ascii_digit())
 }
 
+// Stays (proof): a fold would be shorter, but its closure is told no bound on the number so far, so neither the
+// product nor the sum is proved to fit.
 fn value_of(bytes: &[u8]) -> u16
     requires { (length bytes.now ≤ 4) × (digits bytes.now ≡ true) }
     ensures { result ≡ value 0 bytes.now }
@@ -43,9 +34,5 @@ fn is_written(bytes: &[u8]) -> bool
 pub fn decimal(bytes: &[u8]) -> Option<u16>
     ensures { result ≡ decimal_of bytes.now }
 {
-    if is_written(bytes) {
-        Some(value_of(bytes))
-    } else {
-        None
-    }
+    is_written(bytes).then(|| value_of(bytes))
 }

@@ -5,9 +5,10 @@ ghost use Rattle.sheet.specs.Grammar.{Inverts};
 ghost use Rattle.sheet.specs.Reading.{tables, reading, filled_of, answer as answer_of, judged, filled};
 
 use crate::fault::{Place, SheetFault};
-use crate::field::until;
+use crate::field::Line;
 use crate::line::{Due, Record, header_line, record_line};
-use code::code::admit::fault_of;
+use crate::pieces::until;
+use code::code::admit::judged;
 pub use code::numbers::Numbers;
 use code::table::{Edge, Entry, Header};
 
@@ -68,7 +69,11 @@ fn fill_tables(
         let end = line_end(text, place)?;
         let at = place.byte;
         let next = below(place, end);
-        match record_line(&text[at..end], place, due, header)? {
+        let line = Line {
+            bytes: &text[at..end],
+            place,
+        };
+        match record_line(line, due, header)? {
             Record::Edge(edge) => {
                 if w >= edges.len() {
                     return Err(SheetFault::Full(place));
@@ -108,7 +113,10 @@ fn fill(text: &[u8], edges: &mut [Edge], entries: &mut [Entry]) -> Result<Filled
 {
     let place = Place { line: 1, byte: 0 };
     let end = line_end(text, place)?;
-    let header = header_line(&text[0..end], place)?;
+    let header = header_line(Line {
+        bytes: &text[0..end],
+        place,
+    })?;
     let start = below(place, end);
     fill_tables(text, start, header, edges, entries)
 }
@@ -119,22 +127,10 @@ fn judge(whole: Filled, edges: &[Edge], entries: &[Entry]) -> Result<Numbers, Sh
     requires entries { whole.entries ≤ length entries.now }
     ensures { result ≡ judged (Ok whole.header) (take whole.edges edges.now) (take whole.entries entries.now) }
 {
-    let Filled {
-        header,
-        edges: w,
-        entries: k,
-    } = whole;
-    match fault_of(header, &edges[0..w], &entries[0..k]) {
-        Some(fault) => Err(SheetFault::Refused(fault)),
-        None => Ok(Numbers {
-            order: header.order,
-            columns: header.columns,
-            rows: header.rows,
-            edges: w,
-            ceiling: header.ceiling,
-            limit: header.limit,
-        }),
-    }
+    let edges = &edges[0..whole.edges];
+    let entries = &entries[0..whole.entries];
+    judged(whole.header, edges, entries)?;
+    Ok(Numbers::new(whole.header, whole.edges))
 }
 
 // Reads a sheet into two lent tables and answers its code's numbers, or the first fault.

@@ -1,3 +1,5 @@
+use crate::fault::Place;
+
 // One field of a sheet by its kind, each with the bytes that stand in the sheet.
 #[derive(Clone, Copy)]
 pub enum Token<'a> {
@@ -6,12 +8,11 @@ pub enum Token<'a> {
     Dash(&'a [u8]),
 }
 
-// A field with its line, from 1, and its byte in the text, from 0.
+// A field and its place in the text.
 #[derive(Clone, Copy)]
 pub struct Part<'a> {
     pub token: Token<'a>,
-    pub line: usize,
-    pub byte: usize,
+    pub place: Place,
 }
 
 // The kinds of record, one letter each: C, E, K and Z.

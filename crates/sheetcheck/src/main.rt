@@ -1,8 +1,7 @@
 #![tactic(auto)]
 
 use code::table::{Edge, Entry};
-use sheet::fault::{Layer, SheetFault, Spot};
-use sheet::read::{Numbers, read};
+use sheet::read::read;
 use std::io;
 use std::io::Read;
 
@@ -17,36 +16,7 @@ fn main(rt: HostRuntime) -> io::Result<()> {
     }; 1024];
     let mut entries = [Entry { column: 0, row: 0 }; 1024];
     match read(text.as_slice(), &mut edges, &mut entries) {
-        Ok(numbers) => print_numbers(&rt, numbers),
-        Err(fault) => print_fault(&rt, fault),
-    }
-}
-
-fn print_numbers(rt: &HostRuntime, numbers: Numbers) -> io::Result<()> {
-    let Numbers {
-        order,
-        columns,
-        rows,
-        edges,
-        ceiling,
-        limit,
-    } = numbers;
-    println!(rt; "ok\t{order}\t{columns}\t{rows}\t{edges}\t{ceiling}\t{limit}")
-}
-
-fn print_fault(rt: &HostRuntime, fault: SheetFault) -> io::Result<()> {
-    let number = fault.number();
-    let layer = match fault.layer() {
-        Layer::Text => "text",
-        Layer::Record => "record",
-        Layer::Code => "code",
-    };
-    match fault.spot() {
-        Spot::Text(place) => {
-            let line = place.line;
-            let byte = place.byte;
-            println!(rt; "no\t{number}\t{layer}\t{line}\t{byte}")
-        }
-        Spot::Table(position) => println!(rt; "no\t{number}\t{layer}\t{position}"),
+        Ok(numbers) => println!(rt; "ok\t{numbers}"),
+        Err(fault) => println!(rt; "no\t{fault}"),
     }
 }

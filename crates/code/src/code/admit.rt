@@ -65,7 +65,7 @@ pub fn fault_of(header: Header, edges: &[Edge], entries: &[Entry]) -> Option<Cod
 }
 
 // The answer of admitting: granted exactly if the code keeps the rules, refused exactly with its first fault.
-fn judged(header: Header, edges: &[Edge], entries: &[Entry]) -> Result<(), CodeFault>
+pub fn judged(header: Header, edges: &[Edge], entries: &[Entry]) -> Result<(), CodeFault>
     ensures answer { result ≡ verdict (admission header edges.now entries.now) }
     ensures law { GrantedByTheRules header edges.now entries.now result }
     ensures place { RefusedAtTheFirst header edges.now entries.now result }

@@ -1,16 +1,16 @@
-use Rattle.std.proofs.Common.{[], get_or, sym}
+use Rattle.std.proofs.Common.{sym}
 use Rattle.std.proofs.lemmas.Result.{err_from_is_err_and}
 use Rattle.sheet.specs.declared.line.Due.TheVariants as due
 use Rattle.sheet.specs.Pieces.{fields}
 use Rattle.sheet.specs.Lines.{header_line}
-use Rattle.sheet.proofs.Tests.{on, out, begins, one_letter, only_header}
+use Rattle.sheet.proofs.Tests.{on, out, begins, only_header}
 use Rattle.sheet.proofs.line.header_line.Goals as goal
 
 pub header_from-requires : goal.header_from-requires
 header_from-requires c =
     let b = c.in_ok-kind_due in
-    let k = begins due.Header c.args.place (fields c.args.line.now) _ (sym b.ensures) in
-    record { count = only_header _ _ k; letter = (one_letter (get_or (fields c.args.line.now) 0 []) _ k.kind).0; fits = c.requires }
+    let k = begins due.Header c.args.line.place (fields c.args.line.bytes.now) _ (sym b.ensures) in
+    only_header _ _ k
 
 pub returns-in_err-kind_due : goal.returns-in_err-kind_due
 unfolding header_line

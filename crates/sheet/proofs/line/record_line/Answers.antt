@@ -1,9 +1,9 @@
-use Rattle.std.proofs.Common.{◌≡◌, [], get_or, Ok, sym, refl, ap, ◌∙◌}
+use Rattle.std.proofs.Common.{◌≡◌, Ok, sym, refl, ap, ◌∙◌}
 use Rattle.std.proofs.lemmas.Result.{err_from_is_err_and}
 use Rattle.sheet.specs.declared.token.Kind.TheVariants as kind
 use Rattle.sheet.specs.Pieces.{fields}
 use Rattle.sheet.specs.Lines.{kind_due, record_line}
-use Rattle.sheet.proofs.Tests.{on, out, begins, one_letter}
+use Rattle.sheet.proofs.Tests.{on, out, begins}
 use Rattle.sheet.proofs.line.record_line.Goals as goal
 
 pub returns-in_err-kind_due : goal.returns-in_err-kind_due
@@ -14,15 +14,15 @@ returns-in_err-kind_due c =
 
 pub edge_from-requires : goal.edge_from-requires
 edge_from-requires c =
-    let e : Ok kind.Edge ≡ kind_due c.args.due c.args.place (fields c.args.line.now) = ap Ok (sym c.in-Edge.is) ∙ c.in_ok-kind_due.ensures in
-    let b = begins c.args.due c.args.place (fields c.args.line.now) kind.Edge (sym e) in
-    record { count = b.count; letter = (one_letter (get_or (fields c.args.line.now) 0 []) kind.Edge b.kind).0; fits = c.requires.fits; small = c.requires.small }
+    let e : Ok kind.Edge ≡ kind_due c.args.due c.args.line.place (fields c.args.line.bytes.now) = ap Ok (sym c.in-Edge.is) ∙ c.in_ok-kind_due.ensures in
+    let b = begins c.args.due c.args.line.place (fields c.args.line.bytes.now) kind.Edge (sym e) in
+    record { count = b.count; small = c.requires }
 
 pub entry_from-requires : goal.entry_from-requires
 entry_from-requires c =
-    let e : Ok kind.Entry ≡ kind_due c.args.due c.args.place (fields c.args.line.now) = ap Ok (sym c.in-Entry.is) ∙ c.in_ok-kind_due.ensures in
-    let b = begins c.args.due c.args.place (fields c.args.line.now) kind.Entry (sym e) in
-    record { count = b.count; letter = (one_letter (get_or (fields c.args.line.now) 0 []) kind.Entry b.kind).0; fits = c.requires.fits }
+    let e : Ok kind.Entry ≡ kind_due c.args.due c.args.line.place (fields c.args.line.bytes.now) = ap Ok (sym c.in-Entry.is) ∙ c.in_ok-kind_due.ensures in
+    let b = begins c.args.due c.args.line.place (fields c.args.line.bytes.now) kind.Entry (sym e) in
+    b.count
 
 pub returns-in_err-edge_from-in-Edge : goal.returns-in_err-edge_from-in-Edge
 unfolding record_line

@@ -1,14 +1,9 @@
-use Rattle.std.proofs.Common.{sym, ◌∙◌}
-use Rattle.std.proofs.lemmas.List.{at_drop_all}
-use Rattle.sheet.specs.Words.{digits}
-use Rattle.sheet.proofs.Turns.{digits_more, digits_not}
+use Rattle.std.proofs.Common.{rules, tests, ◌∙◌}
+use Rattle.std.proofs.lemmas.Iterator.{YieldsList-from_slice}
+use Rattle.std.proofs.lemmas.Iterator.Search.{all_from_yields_List}
+use Rattle.std.specs.Char.{is_ascii_digit}
+use Rattle.sheet.proofs.Turns.{all_digits_list}
 use Rattle.sheet.proofs.number.all_digits.Goals as goal
 
-pub returns-then-not-is_digit : goal.returns-then-not-is_digit
-returns-then-not-is_digit c = sym (c.loop-b.invariant ∙ digits_not _ _ c.loop-b-test.true c.if-not-is_digit.ensures)
-
-pub loop-b-preserved : goal.loop-b-preserved
-loop-b-preserved c = c.loop-b.invariant ∙ digits_more _ _ c.loop-b-test.true c.if-not-is_digit.ensures
-
 pub returns : goal.returns
-returns c = sym (c.loop-b.invariant ∙ at_drop_all digits _ _ c.loop-b-test.false)
+returns c = all_from_yields_List is_ascii_digit _ _ _ c.all.ensures.ran (YieldsList-from_slice _ c.iter.ensures.rest) (λ x b q k. search (rules, tests)) ∙ all_digits_list c.args.bytes.now

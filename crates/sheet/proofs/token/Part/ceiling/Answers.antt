@@ -1,11 +1,10 @@
-use Rattle.sheet.specs.Words.{seen}
-use Rattle.sheet.specs.Lines.{or_not_written, place_of, ceiling_of}
+use Rattle.std.proofs.Common.{ap, ◌∙◌}
+use Rattle.std.specs.Option.{ok_or}
+use Rattle.sheet.specs.declared.fault.SheetFault.TheVariants.{NotWritten}
+use Rattle.sheet.specs.Lines.{ceiling_of}
+use Rattle.sheet.proofs.Tests.{written_or}
 use Rattle.sheet.proofs.token.Part.ceiling.Goals as goal
 
-pub returns-in-Some : goal.returns-in-Some
+pub returns : goal.returns
 unfolding ceiling_of
-returns-in-Some c = λ i. or_not_written (c.in-Some.ensures i) (place_of (seen c.args.self.now))
-
-pub returns-in-None : goal.returns-in-None
-unfolding ceiling_of
-returns-in-None c = λ i. or_not_written (c.in-None.ensures i) (c.place.ensures i)
+returns c = c.ok_or.ensures.value ∙ ap (λ o. ok_or o (NotWritten c.args.self.now.place)) c.plain_or_dash.ensures ∙ written_or _ _

@@ -1,6 +1,5 @@
-use Rattle.std.proofs.Common.{Err, sym, ap, ◌∙◌}
+use Rattle.std.proofs.Common.{sym}
 use Rattle.std.proofs.lemmas.Bool.{cond-true, cond-false}
-use Rattle.sheet.specs.declared.fault.SheetFault.TheVariants.{OutOfRange}
 use Rattle.sheet.specs.Lines.{in_range, ranged}
 use Rattle.sheet.proofs.token.Part.ranged.Goals as goal
 
@@ -11,4 +10,4 @@ returns-then-in_range c = sym (cond-true (in_range c.args.low c.args.limit c.arg
 pub returns-else-in_range : goal.returns-else-in_range
 unfolding ranged
 returns-else-in_range c =
-    ap (λ p. Err (OutOfRange p)) c.place.ensures ∙ sym (cond-false (in_range c.args.low c.args.limit c.args.n) _ _ (sym c.if-in_range.ensures))
+    sym (cond-false (in_range c.args.low c.args.limit c.args.n) _ _ (sym c.if-in_range.ensures))

@@ -1,0 +1,18 @@
+ghost use Rattle.std.specs.Prelude.{◌≡◌, ◌+◌, ◌^◌, ◌<◌, ◌≤◌, length};
+ghost use Rattle.sheet.specs.Pieces.{split, first};
+
+// How many bytes stand before the first `stop`, or in all.
+pub fn until(bytes: &[u8], stop: u8) -> usize
+    ensures value { result ≡ length (first stop bytes.now) }
+    ensures within { result ≤ length bytes.now }
+{
+    bytes.iter().position(|b| *b == stop).unwrap_or(bytes.len())
+}
+
+// How many pieces there are between the bytes `stop`.
+pub(crate) fn pieces(bytes: &[u8], stop: u8) -> usize
+    requires { length bytes.now + 1 < 2 ^ 64 }
+    ensures { result ≡ length (split stop bytes.now) }
+{
+    bytes.iter().filter(|b| **b == stop).count() + 1
+}
