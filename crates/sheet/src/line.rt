@@ -84,6 +84,8 @@ fn header_of(q: &Part, n: &Part, m: &Part, c: &Part, l: &Part) -> Result<Header,
     })
 }
 
+// Stays (plain): the bound on the order is asked from here up to the reader of lines, for the one cast below. A type
+// for such headers would put a field of its own between each answer and the definition that it states.
 fn edge_of(header: Header, r: &Part, c: &Part, k: &Part) -> Result<Edge, SheetFault>
     requires { header.order ≤ 64 }
     ensures { result ≡ edge_of header (seen r.now) (seen c.now) (seen k.now) }

@@ -1,5 +1,5 @@
-ghost use Rattle.std.specs.Prelude.{◌≡◌, ◌+◌, ◌^◌, ◌<◌, ◌≤◌, length, take, drop, Ok, MatchResult};
-ghost use Rattle.sheet.specs.declared.fault.SheetFault.TheVariants.{Ends};
+ghost use Rattle.std.specs.Prelude.{◌≡◌, ◌+◌, ◌^◌, ◌<◌, ◌≤◌, length, slice_set, take, drop, Ok, MatchResult};
+ghost use Rattle.sheet.specs.declared.fault.SheetFault.TheVariants.{Ends, Full};
 ghost use Rattle.sheet.specs.Pieces.{first};
 ghost use Rattle.sheet.specs.Grammar.{Inverts};
 ghost use Rattle.sheet.specs.Reading.{tables, reading, filled_of, answer as answer_of, judged, filled};
@@ -13,6 +13,7 @@ pub use code::numbers::Numbers;
 use code::table::{Edge, Entry, Header};
 
 // The header of a whole sheet, and how many records it filled in.
+// Stays (rule): the tables are lent by the caller, so their filled lengths are told beside them.
 #[derive(Clone, Copy)]
 struct Filled {
     header: Header,
@@ -46,6 +47,17 @@ fn below(place: Place, end: usize) -> Place
     }
 }
 
+// Puts the record of a line into a table at its first free place; 17 if there is none.
+fn put<T: Copy>(table: &mut [T], free: usize, item: T, place: Place) -> Result<(), SheetFault>
+    ensures cases { MatchResult result (λ x. (free < length table.old) × (table.new ≡ slice_set table.old free item)) (λ f. (f ≡ Full place) × (length table.old ≤ free) × (table.new ≡ table.old)) }
+{
+    if free >= table.len() {
+        return Err(SheetFault::Full(place));
+    }
+    table[free] = item;
+    Ok(())
+}
+
 // Fills the tables from the lines below the header.
 fn fill_tables(
     text: &[u8],
@@ -63,6 +75,8 @@ fn fill_tables(
 {
     let mut place = start;
     let mut due = Due::Edge;
+    // Stays (plain): a line fills one table or the other, so neither count follows the lines, and each is taken where
+    // its record is put.
     let mut w = 0;
     let mut k = 0;
     loop {
@@ -75,18 +89,12 @@ fn fill_tables(
         };
         match record_line(line, due, header)? {
             Record::Edge(edge) => {
-                if w >= edges.len() {
-                    return Err(SheetFault::Full(place));
-                }
-                edges[w] = edge;
+                put(edges, w, edge, place)?;
                 w += 1;
                 due = Due::EdgeOrEntry;
             }
             Record::Entry(entry) => {
-                if k >= entries.len() {
-                    return Err(SheetFault::Full(place));
-                }
-                entries[k] = entry;
+                put(entries, k, entry, place)?;
                 k += 1;
                 due = Due::EntryOrEnd;
             }

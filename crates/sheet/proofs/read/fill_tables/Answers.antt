@@ -19,23 +19,27 @@ returns-in_err-edge c =
     let f = final_bad _ _ _ _ _ _ _ _ _ _ _ r _ _ _ x _ c.in_err-edge.ensures in
     record { answer = rw (p.1, p.2) f.answer; edges = f.edges; entries = f.entries }
 
-pub returns-then-w-edges : goal.returns-then-w-edges
-returns-then-w-edges c =
+pub returns-in_err-put-in-Edge : goal.returns-in_err-put-in-Edge
+returns-in_err-put-in-Edge c =
+    let p = err_from_is_err_and c.from_residual-in_err-put-in-Edge.result c.from_residual-in_err-put-in-Edge.ensures.1 in
+    let full = c.in_err-put-in-Edge.ensures.cases in
     let r = c.loop-end.invariant in
     let e = length c.args.edges.now - c.loop-end.w in
     let k = length c.args.entries.now - c.loop-end.k in
     let x = here c.args.text.now c.args.header c.loop-end.due c.loop-end.place e k c.in_ok-end.end c.below-next.result c.below-next.ensures.line c.below-next.ensures.byte c.in_ok-end.ensures.cases in
-    let f = final_edge _ _ _ _ _ _ _ _ _ _ _ r _ _ _ x c.in-Edge.edge (ap Ok (sym c.in-Edge.is) ∙ c.in_ok-edge.ensures) c.if-w-edges.true in
-    record { answer = f.answer; edges = f.edges; entries = f.entries }
+    let f = final_edge _ _ _ _ _ _ _ _ _ _ _ r _ _ _ x c.in-Edge.edge (ap Ok (sym c.in-Edge.is) ∙ c.in_ok-edge.ensures) full.1 in
+    record { answer = rw (p.1, p.2) (ap Err full.0 ∙ f.answer); edges = full.2 ∙ f.edges; entries = f.entries }
 
-pub returns-then-k-entries : goal.returns-then-k-entries
-returns-then-k-entries c =
+pub returns-in_err-put-in-Entry : goal.returns-in_err-put-in-Entry
+returns-in_err-put-in-Entry c =
+    let p = err_from_is_err_and c.from_residual-in_err-put-in-Entry.result c.from_residual-in_err-put-in-Entry.ensures.1 in
+    let full = c.in_err-put-in-Entry.ensures.cases in
     let r = c.loop-end.invariant in
     let e = length c.args.edges.now - c.loop-end.w in
     let k = length c.args.entries.now - c.loop-end.k in
     let x = here c.args.text.now c.args.header c.loop-end.due c.loop-end.place e k c.in_ok-end.end c.below-next.result c.below-next.ensures.line c.below-next.ensures.byte c.in_ok-end.ensures.cases in
-    let f = final_entry _ _ _ _ _ _ _ _ _ _ _ r _ _ _ x c.in-Entry.entry (ap Ok (sym c.in-Entry.is) ∙ c.in_ok-edge.ensures) c.if-k-entries.true in
-    record { answer = f.answer; edges = f.edges; entries = f.entries }
+    let f = final_entry _ _ _ _ _ _ _ _ _ _ _ r _ _ _ x c.in-Entry.entry (ap Ok (sym c.in-Entry.is) ∙ c.in_ok-edge.ensures) full.1 in
+    record { answer = rw (p.1, p.2) (ap Err full.0 ∙ f.answer); edges = f.edges; entries = full.2 ∙ f.entries }
 
 pub returns-then-next-text : goal.returns-then-next-text
 returns-then-next-text c =
@@ -55,18 +59,20 @@ returns-in-End c =
     let f = final_end _ _ _ _ _ _ _ _ _ _ _ r _ _ _ x (ap Ok (sym c.in-End.is) ∙ c.in_ok-edge.ensures) c.if-next-text.false in
     record { answer = f.answer; edges = f.edges; entries = f.entries }
 
-pub loop-end-preserved-else-w-edges : goal.loop-end-preserved-else-w-edges
-loop-end-preserved-else-w-edges c =
+pub loop-end-preserved-in_ok-put-in-Edge : goal.loop-end-preserved-in_ok-put-in-Edge
+loop-end-preserved-in_ok-put-in-Edge c =
+    let put = c.in_ok-put-in-Edge.ensures.cases in
     let r = c.loop-end.invariant in
     let e = length c.args.edges.now - c.loop-end.w in
     let k = length c.args.entries.now - c.loop-end.k in
     let x = here c.args.text.now c.args.header c.loop-end.due c.loop-end.place e k c.in_ok-end.end c.below-next.result c.below-next.ensures.line c.below-next.ensures.byte c.in_ok-end.ensures.cases in
-    reached_edge _ _ _ _ _ _ _ _ _ _ _ r _ _ _ x c.in-Edge.edge (ap Ok (sym c.in-Edge.is) ∙ c.in_ok-edge.ensures) c.if-w-edges.false
+    rw put.1 (reached_edge _ _ _ _ _ _ _ _ _ _ _ r _ _ _ x c.in-Edge.edge (ap Ok (sym c.in-Edge.is) ∙ c.in_ok-edge.ensures) put.0)
 
 pub loop-end-preserved : goal.loop-end-preserved
 loop-end-preserved c =
+    let put = c.in_ok-put-in-Entry.ensures.cases in
     let r = c.loop-end.invariant in
     let e = length c.args.edges.now - c.loop-end.w in
     let k = length c.args.entries.now - c.loop-end.k in
     let x = here c.args.text.now c.args.header c.loop-end.due c.loop-end.place e k c.in_ok-end.end c.below-next.result c.below-next.ensures.line c.below-next.ensures.byte c.in_ok-end.ensures.cases in
-    reached_entry _ _ _ _ _ _ _ _ _ _ _ r _ _ _ x c.in-Entry.entry (ap Ok (sym c.in-Entry.is) ∙ c.in_ok-edge.ensures) c.if-k-entries.false
+    rw put.1 (reached_entry _ _ _ _ _ _ _ _ _ _ _ r _ _ _ x c.in-Entry.entry (ap Ok (sym c.in-Entry.is) ∙ c.in_ok-edge.ensures) put.0)
