@@ -9,6 +9,8 @@ use prime::Prime;
 use std::io;
 
 // The small code of the worked examples: two rows over four columns, of order 3.
+// Stays (plain): a table that is lent for good has a constant value, which calls no function, so each line is written out; the tests'
+// crate has the same table, and a program lends its own.
 static EDGES: [Edge; 6] = [
     Edge {
         row: 0,
@@ -55,8 +57,8 @@ static COSTS: [[u16; 3]; 4] = [[0, 5, 9], [4, 0, 7], [0, 6, 8], [0, 3, 10]];
 
 // Loads each column's costs.
 fn load_all(code: &Code, slip: &LoadingSlip, area: &mut [u16]) {
-    for c in 0..4 {
-        let _ = load(code, slip, area, c as u16, &COSTS[c]);
+    for (column, costs) in COSTS.iter().enumerate() {
+        let _ = load(code, slip, area, column as u16, costs);
     }
 }
 
@@ -67,19 +69,19 @@ fn print_columns(
     slip: &RunningSlip,
     area: &[u16],
 ) -> io::Result<()> {
-    for c in 0..4u16 {
+    for column in 0..code.header().columns {
         let mut distances = [0u16; 3];
-        if let Ok(symbol) = read(code, slip, area, c, &mut distances) {
-            println!(rt;
-                "column {}: {} at {} {} {}",
-                c, symbol, distances[0], distances[1], distances[2]
-            )?;
+        if let Ok(symbol) = read(code, slip, area, column, &mut distances) {
+            let [zero, one, two] = distances;
+            println!(rt; "column {column}: {symbol} at {zero} {one} {two}")?;
         }
     }
     Ok(())
 }
 
 // Decodes one frame, by hand: open, load, start, one round, read, conclude.
+// Stays (plain): a refused step prints its own line and ends the program well. An error type for `?` would hold the same texts far from
+// their steps, and `main` would have to tell them from a failed write again.
 fn main(rt: HostRuntime) -> io::Result<()> {
     let mut code = Code::builtin();
     let header = Header {
@@ -92,9 +94,9 @@ fn main(rt: HostRuntime) -> io::Result<()> {
     let Ok(field) = Prime::new(3) else {
         return println!(rt; "no field");
     };
-    if let Err(_) = admit(header, &EDGES, &ENTRIES, &mut code) {
+    let Ok(()) = admit(header, &EDGES, &ENTRIES, &mut code) else {
         return println!(rt; "no code");
-    }
+    };
     let mut area = [0u16; 168];
     let Ok(slip) = open(&field, &code, &mut area) else {
         return println!(rt; "not opened");
