@@ -6,6 +6,9 @@ ghost use Rattle.joiner.specs.Costs.{Low};
 use crate::codes::times;
 use field::Field;
 
+// Stays (plain): a struct that holds the lent words beside q would ask of each function that is given it, and of each loop, two more
+// clauses: that q and the words that it lends are still the same.
+// Stays (rule): a join's vectors are copied out into local arrays, since what is made of them is written to the same area.
 // Block j, at the front of an array.
 pub fn copied(area: &[u16], q: usize, j: usize) -> [u16; 64]
     requires { (q ≤ 64) × (j * q + q ≤ length area.now) }
@@ -38,6 +41,7 @@ pub fn gather<F: Field>(field: &F, k: u8, v: &[u16], out: &mut [u16])
     requires { (k < (F.Field.meaning field.now).order) × ((length v.now ≡ (F.Field.meaning field.now).order) × (length out.old ≡ (F.Field.meaning field.now).order)) }
     ensures { out.new ≡ gathered (F.Field.meaning field.now) k v.now }
 {
+    // Stays (proof): of what is written through `iter_mut` a proof knows no element afterwards.
     for c in 0..field.order() {
         out[c as usize] = v[times(field, k, c) as usize];
     }

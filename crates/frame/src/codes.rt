@@ -3,6 +3,8 @@ ghost use Rattle.frame.specs.Vectors.{minus, over_one};
 
 use field::Field;
 
+// Stays (plain): the encoder and the joiners have some of these too. A public function may ask nothing of its callers, so one home
+// for all would answer an `Option` again.
 // The product of two codes.
 pub fn times<F: Field>(field: &F, a: u8, b: u8) -> u8
     requires { (a < (F.Field.meaning field.now).order) × (b < (F.Field.meaning field.now).order) }

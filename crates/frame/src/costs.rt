@@ -92,6 +92,7 @@ pub fn settle(area: &mut [u16], q: usize, n: usize)
     requires q { (1 ≤ q) × ((q ≤ 64) × ((n ≤ 256) × (n + n ≤ blocks q area.old))) }
     ensures { Filled q n n (λ c. lowered q 65535 (block q (n + c) area.old) (replicate q 0)) area.old area.new }
 {
+    // Stays (proof): of what is written through `chunks_exact_mut` a proof knows no element afterwards.
     for c in 0..n {
         reduce_block(area, q, n + c);
     }

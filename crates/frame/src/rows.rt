@@ -10,6 +10,7 @@ use code::table::Edge;
 use field::Field;
 use joiner::Joiner;
 
+// Stays (plain): `chunk_by` would give the rows' edges, and beside it the place where each row begins would still be counted by hand.
 // Where the first edge stands that is of another row than r.
 fn leaves_row(edges: &[Edge], r: u16) -> Option<usize>
     ensures { result ≡ position (λ edge. not (edge.row == r)) edges.now }

@@ -7,6 +7,8 @@ use crate::step::Joins;
 use field::Field;
 use joiner::Joiner;
 
+// Stays (plain): the counters of these loops name blocks of one lent area, two to read and one to write at each turn, and no iterator
+// lends these together.
 impl<'a, F: Field, J: Joiner> Joins<'a, F, J> {
     // Joins the vectors in the scratch blocks, from the last one down to the second, into those from the 16th on.
     pub fn backward(&self, area: &mut [u16], last: usize) -> u32
