@@ -37,8 +37,8 @@ pub fn body<F: Field, J: Joiner>(
     };
     let pairs = joins.rows(edges, area, to, from, header.rows);
     begin(area, q, n);
-    sums(edges, entries, header.ceiling, area, q, n, from, n);
-    costs(edges, header.ceiling, area, q, n, to, from, n);
+    sums(edges, entries, area, q, n);
+    costs(edges, header.ceiling, area, q, n);
     settle(area, q, n);
     pairs
 }

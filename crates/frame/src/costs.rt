@@ -33,30 +33,16 @@ fn lower_block(area: &mut [u16], q: usize, i: usize, j: usize, k: usize, ceiling
 }
 
 // Writes each edge's to-check costs, from the sums of its column.
-pub fn costs(
-    edges: &[Edge],
-    ceiling: u16,
-    area: &mut [u16],
-    q: usize,
-    columns: usize,
-    to: usize,
-    from: usize,
-    n: usize,
-)
+pub fn costs(edges: &[Edge], ceiling: u16, area: &mut [u16], q: usize, n: usize)
     requires q { (1 ≤ q) × (q ≤ 64) }
-    requires room { (columns + n ≤ to) × ((to + length edges.now ≤ from) × ((from + length edges.now ≤ blocks q area.old) × ((from ≤ 4096) × (length edges.now ≤ 1024)))) }
+    requires room { (n + n + length edges.now + length edges.now ≤ blocks q area.old) × ((n ≤ 256) × (length edges.now ≤ 1024)) }
     requires edges { (x : ℕ) → x < length edges.now → column_at edges.now x < n }
-    ensures { Filled q to (length edges.now) (λ x. lowered q ceiling (block q (columns + column_at edges.now x) area.old) (block q (from + x) area.old)) area.old area.new }
+    ensures { Filled q (n + n) (length edges.now) (λ x. lowered q ceiling (block q (n + column_at edges.now x) area.old) (block q (n + n + length edges.now + x) area.old)) area.old area.new }
 {
+    let to = n + n;
+    let from = to + edges.len();
     for (e, edge) in edges.iter().enumerate() {
-        lower_block(
-            area,
-            q,
-            columns + edge.column as usize,
-            from + e,
-            to + e,
-            ceiling,
-        );
+        lower_block(area, q, n + edge.column as usize, from + e, to + e, ceiling);
     }
 }
 

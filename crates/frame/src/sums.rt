@@ -31,27 +31,19 @@ fn add_block(area: &mut [u16], q: usize, i: usize, j: usize)
     add(&mut area[j * q..j * q + q], &v[0..q]);
 }
 
-// Adds the block of each entry's edge to the block of its column.
-pub fn sums(
-    edges: &[Edge],
-    entries: &[Entry],
-    ceiling: u16,
-    area: &mut [u16],
-    q: usize,
-    columns: usize,
-    from: usize,
-    n: usize,
-)
-    requires q { (q ≤ 64) × (ceiling ≤ 1023) }
-    requires room { (columns + n ≤ from) × ((from + length edges.now ≤ blocks q area.old) × ((from ≤ 4096) × (length edges.now ≤ 1024))) }
+// Adds the from-check block of each entry's edge to the block of its column's distances.
+pub fn sums(edges: &[Edge], entries: &[Entry], area: &mut [u16], q: usize, n: usize)
+    requires q { q ≤ 64 }
+    requires room { (n + n + length edges.now + length edges.now ≤ blocks q area.old) × ((n ≤ 256) × (length edges.now ≤ 1024)) }
     requires rising { Rising edges.now }
     requires entries { (k : ℕ) → k < length entries.now → ((entry_at entries.now k).column < n) × HasAt edges.now (entry_at entries.now k).row (entry_at entries.now k).column }
     requires few { (c : ℕ) → c < n → count (length entries.now) (λ k. nat_eq (entry_at entries.now k).column c) ≤ 8 }
-    requires low { (((c : ℕ) → c < n → Low ceiling (block q (columns + c) area.old))) × (((x : ℕ) → x < length edges.now → Low ceiling (block q (from + x) area.old))) }
-    ensures { SummedTo q columns n from (length entries.now) edges.now entries.now area.old area.new }
+    requires low { (((c : ℕ) → c < n → Low 1023 (block q (n + c) area.old))) × (((x : ℕ) → x < length edges.now → Low 1023 (block q (n + n + length edges.now + x) area.old))) }
+    ensures { SummedTo q n n (n + n + length edges.now) (length entries.now) edges.now entries.now area.old area.new }
 {
+    let from = n + n + edges.len();
     for entry in entries {
         let e = edge_at(edges, entry.row, entry.column);
-        add_block(area, q, from + e, columns + entry.column as usize);
+        add_block(area, q, from + e, n + entry.column as usize);
     }
 }

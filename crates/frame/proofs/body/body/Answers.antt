@@ -50,13 +50,13 @@ sums-requires g c =
     let S1 = c.rows-pairs.ensures.area in let S2 = c.begin.ensures in
     let z = same_blocks c.args.header.order a0 a2 (c.begin.auto.area ∙ c.rows-pairs.auto.area) (N + N + W + W) (omega arith) in
     record {
-      q = (f.order_high, f.ceiling_high);
-      room = (omega arith, (z, (omega (arith, f.columns_high, f.width_high), f.width_high)));
+      q = f.order_high;
+      room = (z, (f.columns_high, f.width_high));
       rising = f.rising;
       entries = λ k h. let w = entry_edge K R.admitted k h in
           (subst (λ n. n < N) w.2 (f.column_below (tree.edge_of K k) w.0), (tree.edge_of K k, record { within = w.0; row = w.1; column = w.2 }));
       few = λ j h. subst (λ n. n ≤ 8) (column_total K R.admitted j (λ x. 1)) (f.column_high j h);
-      low = (low_begun F L K o a0 R a1 S1 a2 S2, low_two F L K o a0 R a1 S1 a2 S2);
+      low = (λ j h a. omega (arith, low_begun F L K o a0 R a1 S1 a2 S2 j h a, f.ceiling_high), λ x h a. omega (arith, low_two F L K o a0 R a1 S1 a2 S2 x h a, f.ceiling_high));
     }
 
 pub costs-requires : goal.costs-requires
@@ -71,7 +71,7 @@ costs-requires g c =
     let z = same_blocks c.args.header.order a0 a3 (c.sums.auto.area ∙ c.begin.auto.area ∙ c.rows-pairs.auto.area) (N + N + W + W) (omega arith) in
     record {
       q = (omega (arith, f.order_low), f.order_high);
-      room = (omega arith, (omega arith, (z, (omega (arith, f.columns_high, f.width_high), f.width_high))));
+      room = (z, (f.columns_high, f.width_high));
       edges = f.column_below;
     }
 
