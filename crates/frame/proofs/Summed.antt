@@ -5,12 +5,11 @@ use Rattle.tree.specs.Over.{over, total, count, least_to}
 use Rattle.joiner.specs.Costs.{Low}
 use Rattle.frame.specs.Blocks.{block, blocks, put, Wrote}
 use Rattle.tree.specs.Rows.{tabled}
-use Rattle.tree.proofs.Rows.{tabled_same}
+use Rattle.tree.proofs.Rows.{tabled_same, length_tabled, at_tabled}
 use Rattle.frame.specs.Words.{store_at}
 use Rattle.frame.specs.Columns.{word, entry_at, edge_of, added, rests, lowered, SummedTo}
 use Rattle.code.specs.declared.table.Edge.{Edge}
 use Rattle.code.specs.declared.table.Entry.{Entry}
-use Rattle.frame.proofs.Vectors.{length_tabled, at_tabled}
 use Rattle.frame.proofs.Turns.{wrote}
 
 pub length_added : (q : ℕ) (v w : List ℕ) → length (added q v w) ≡ q

@@ -1,21 +1,13 @@
 -- Vectors that are tabled or gathered: how long they are, and how high; and which joins are not refused. Assumes nothing.
 use Rattle.std.proofs.Common.{◌≡◌, ℕ, suc, ◌<◌, ◌≤◌, true, leb, ◌⊎◌, List, [], ◌∷◌, length, get_or, None, refl, inl, inr, arith}
-use Rattle.std.proofs.lemmas.List.FromFn.{length-map-range_with_len, get_or-map-range_with_len}
 use Rattle.std.proofs.lemmas.List.{get_or_past}
 use Rattle.std.proofs.lemmas.Bool.{cases_lt, le-leb, eq-eqb, and_from}
 use Rattle.field.specs.Tables.{Tables}
 use Rattle.joiner.specs.Costs.{within}
 use Rattle.joiner.specs.Answers.{refusal_of}
 use Rattle.tree.specs.Rows.{tabled, gathered}
+use Rattle.tree.proofs.Rows.{length_tabled, at_tabled}
 use Rattle.joiner.specs.Costs.{Low}
-
-pub length_tabled : (q : ℕ) (f : ℕ → ℕ) → length (tabled q f) ≡ q
-unfolding tabled
-length_tabled q f = length-map-range_with_len f 0 q
-
-pub at_tabled : (q : ℕ) (f : ℕ → ℕ) (a : ℕ) → a < q → get_or (tabled q f) a 0 ≡ f a
-unfolding tabled
-at_tabled q f a h = get_or-map-range_with_len f 0 q a a 0 h (omega arith)
 
 pub low_tabled : (q : ℕ) (f : ℕ → ℕ) (top : ℕ) → ((a : ℕ) → f a ≤ top) → Low top (tabled q f)
 low_tabled q f top h a = go (cases_lt a q)
