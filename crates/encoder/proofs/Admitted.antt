@@ -1,5 +1,5 @@
 -- What the rules of an admitted code say of its edges and of its check matrix. Assumes nothing.
-use Rattle.std.proofs.Common.{◌≡◌, ℕ, zero, suc, ◌*◌, ◌<◌, ◌≤◌, Bool, true, false, cond, ◌&&◌, eqb, ◌⊎◌, List, length, Some, sym, refl, ◌∙◌, subst, ap₂, subst₂, inl, inr, arith}
+use Rattle.std.proofs.Common.{◌≡◌, ℕ, zero, suc, ◌<◌, ◌≤◌, Bool, true, false, cond, ◌&&◌, eqb, ◌⊎◌, List, length, Some, sym, refl, ◌∙◌, subst, subst₂, inl, inr, arith}
 use native.Mathlib.Decide.{ℕ_discrete, dec_lt}
 use Rattle.std.proofs.lemmas.Option.{slice_get_past}
 use Rattle.std.specs.List.{slice_get}
@@ -8,11 +8,9 @@ use Rattle.code.proofs.Lawfully.{rules_of}
 use Rattle.code.specs.Rules.{Rules, HeaderFits, EdgeBefore, Stands}
 use Rattle.code.specs.declared.code.Code.{Code}
 use Rattle.code.specs.declared.table.Edge.{Edge}
-use Rattle.code.specs.declared.table.Header.{Header}
 use Rattle.field.specs.Tables.{Tables, Lawful}
 use Rattle.linear.specs.Words.{Entries}
 use Rattle.linear.proofs.Tests.{eqb_same, eqb_not, last}
-use Rattle.encoder.specs.Bytes.{Room}
 use Rattle.encoder.specs.CheckMatrix.{edge_at, coefficient_in, matrix_of, check_matrix, MatrixTold, Listed}
 use Rattle.encoder.proofs.Sparse.{listed_entries}
 
@@ -48,19 +46,16 @@ module _ (c : Code) where
   pub check_entries : (t : Tables) → Lawful t → t.order ≡ c.header.order → Entries t.order (check_matrix c)
   check_entries t l e = listed_entries t l c.header.rows c.header.columns c.edges.now (listed_at t.order e)
 
-  -- the same of a header and a table that are the code's
-  module _ (h : Header) (es : List Edge) (eh : h ≡ c.header) (ee : es ≡ c.edges.now) where
-    pub matrix_is : matrix_of h.rows h.columns es ≡ check_matrix c
-    matrix_is = ap₂ (λ (x : Header) (y : List Edge). matrix_of x.rows x.columns y) eh ee
+  pub fewer : c.header.rows ≤ c.header.columns
+  fewer = let f = header_fits.fewer in omega arith
 
-    pub listed_is : (q : ℕ) → q ≡ c.header.order → Listed q h.rows h.columns es
-    listed_is q e = subst₂ (λ (x : Header) (y : List Edge). Listed q x.rows x.columns y) (sym eh) (sym ee) (listed_at q e)
+  -- the same of a size and edges that are the code's
+  module _ (m n : ℕ) (es : List Edge) (em : m ≡ c.header.rows) (en : n ≡ c.header.columns) (ee : es ≡ c.edges.now) where
+    pub matrix_is : matrix_of m n es ≡ check_matrix c
+    matrix_is = cc
 
-    pub room_is : (s : List ℕ) → c.header.rows * c.header.columns ≤ length s → Room s h.rows h.columns
-    room_is s b = subst (λ (x : Header). Room s x.rows x.columns) (sym eh) (record { rows_high = header_fits.rows.1; columns_high = header_fits.columns.1; bytes = b })
-
-    pub fewer_is : h.rows ≤ h.columns
-    fewer_is = subst (λ (x : Header). x.rows ≤ x.columns) (sym eh) (let f = header_fits.fewer in omega arith)
+    pub listed_is : (q : ℕ) → q ≡ c.header.order → Listed q m n es
+    listed_is q e = subst (λ (x : List Edge). Listed q m n x) (sym ee) (subst₂ (λ (x y : ℕ). Listed q x y c.edges.now) (sym em) (sym en) (listed_at q e))
 
   -- ---- the matrix, edge by edge
   entry_at : (k i : ℕ) → i < k → k ≤ length c.edges.now → coefficient_in c.edges.now k (edge_at c.edges.now i).row (edge_at c.edges.now i).column ≡ (edge_at c.edges.now i).coefficient

@@ -1,5 +1,7 @@
 -- One edge more in the bytes. Assumes nothing.
-use Rattle.std.proofs.Common.{◌≡◌, ℕ, suc, ◌+◌, ◌*◌, ◌<◌, ◌≤◌, Bool, true, false, cond, ◌&&◌, eqb, List, length, get_or, set, sym, refl, ◌∙◌, subst, get_or-set_other, get_or-set_same}
+use Rattle.std.proofs.Common.{◌≡◌, ℕ, suc, ◌+◌, ◌-◌, ◌*◌, ◌<◌, ◌≤◌, Bool, true, false, cond, ◌&&◌, eqb, List, ◌++◌, length, get_or, set, take, sym, refl, ap, ◌∙◌, subst, arith, get_or-set_other, get_or-set_same}
+use Rattle.std.proofs.Math.ListN.{replicate}
+use Rattle.std.proofs.lemmas.List.{get_or_append_left, get_or-replicate, length-replicate, length-take}
 use native.Mathlib.Decide.{ℕ_discrete}
 use lib.Arith.{digits_lt}
 use Rattle.code.specs.declared.table.Edge.{Edge}
@@ -47,3 +49,10 @@ laid_more es s m n k k' ek room hr hc inv = subst (λ (x : ℕ). LaidTo es (set 
 -- the bytes hold the matrix of the edges
 pub laid_entries : (q : ℕ) (es : List Edge) (s : List ℕ) (m n : ℕ) → LaidTo es s m n (length es) → Entries q (matrix_of m n es) → Entries q (laid s m n)
 laid_entries q es s m n at E = record { below = λ r c h k. subst (λ (x : ℕ). x < q) (sym (at.entry r c h k)) (E.below r c h k) }
+
+-- what was filled with zeros holds zeros
+pub zero_front : (s front rest : List ℕ) (k : ℕ) → k ≤ length s → front ≡ replicate (length (take (k - 0) s)) 0 → (x : ℕ) → x < k → get_or (front ++ rest) x 0 ≡ 0
+zero_front s front rest k h e x l =
+    let many = length-take (k - 0) s in
+    let long = ap length e ∙ length-replicate (length (take (k - 0) s)) 0 in
+    get_or_append_left front rest 0 x (omega arith) ∙ ap (λ (f : List ℕ). get_or f x 0) e ∙ get_or-replicate (length (take (k - 0) s)) x 0 0 (omega arith)

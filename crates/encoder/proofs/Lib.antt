@@ -3,6 +3,8 @@ pub mod Sparse
 pub mod Laying
 pub mod Admitted
 pub mod Multiplied
+pub mod Tested
 pub mod Passing
+pub mod Solved
 pub mod Promised
 pub mod Computed

@@ -2,18 +2,17 @@
 use Rattle.std.specs.Prelude.{◌≡◌, ℕ, ◌+◌, ◌*◌, ◌/◌, ◌%◌, ◌<◌, ◌≤◌, List, length, None, Option, slice_index, slice_index_or}
 use Rattle.code.specs.declared.table.Edge.{Edge}
 use Rattle.field.specs.Tables.{Tables}
-use Rattle.linear.specs.Words.{Matrix}
+use Rattle.linear.specs.Words.{Matrix, Entries}
 use Rattle.encoder.specs.CheckMatrix.{coefficient_in}
 
 -- m rows of n bytes, one after another
 abbrev pub laid : List ℕ → ℕ → ℕ → Matrix
 laid s m n = record { rows = m; columns = n; entry = λ r c. slice_index s (r * n + c) }
 
--- the numbers of rows and columns that the bytes have room for
-pub record Room (s : List ℕ) (m n : ℕ) : Type 0 where
-  pub rows_high : m ≤ 128
-  pub columns_high : n ≤ 256
-  pub bytes : m * n ≤ length s
+-- the bytes have room for m rows of n columns, and hold a code below q at each of them
+pub record CodesLaid (q : ℕ) (s : List ℕ) (m n : ℕ) : Type 0 where
+  pub room : m * n ≤ length s
+  pub entries : Entries q (laid s m n)
 
 -- the first k edges stand in the bytes, and 0 elsewhere
 pub record LaidTo (es : List Edge) (s : List ℕ) (m n k : ℕ) : Type 0 where

@@ -1,32 +1,61 @@
-// The check matrix laid into the scratch and reduced.
-ghost use Rattle.std.specs.Prelude.{◌≡◌, length};
+// Elimination: the check matrix of a code, laid into lent bytes and reduced.
+ghost use Rattle.std.specs.Prelude.{◌≡◌, ℕ, ◌+◌, ◌*◌, ◌<◌, ◌≤◌, length, None, slice_index_or};
 ghost use Rattle.linear.specs.Elimination.{Reduced};
-ghost use Rattle.encoder.specs.Bytes.{laid, Room, Products};
+ghost use Rattle.encoder.specs.Bytes.{laid, Products};
 ghost use Rattle.encoder.specs.CheckMatrix.{Listed, matrix_of};
 
-use crate::{edges, owners, products, rows};
+use crate::products;
+use code::code::Code;
 use code::table::Edge;
 use field::Field;
 
-// Lays the matrix of the edges and reduces it, so that `owners` has the check column of each row that has one.
-pub(crate) fn eliminate<F: Field>(
-    field: &F,
-    edges: &[Edge],
-    m: usize,
-    n: usize,
-    table: &mut [u8],
-    owners: &mut [Option<u16>],
-    scratch: &mut [u8],
-)
-    requires listed { Listed (F.Field.meaning field.now).order m n edges.now }
-    requires room { Room scratch.old m n }
-    requires table { length table.old ≡ 4096 }
-    requires owners { length owners.old ≡ m }
-    ensures table { Products (F.Field.meaning field.now) table.new }
-    ensures reduced { Reduced (F.Field.meaning field.now) (matrix_of m n edges.now) (laid scratch.new m n) 0 owners.new }
-{
-    products::multiply_all(field, table);
-    edges::lay(edges, scratch, m, n);
-    owners::disown(owners);
-    rows::reduce(field, table, scratch, m, n, owners);
+// What stays the same while a matrix is reduced: the field, the products of any two of its codes, and the matrix's size.
+#[derive(Drop)]
+pub(crate) struct Elimination<'f, F: Field> {
+    pub(crate) field: &'f F,
+    pub(crate) products: [u8; 4096],
+    pub(crate) rows: usize,
+    pub(crate) columns: usize,
+    ghost multiplied: { Products (F.Field.meaning field.now) products },
+    ghost rows_high: { rows ≤ 128 },
+    ghost columns_high: { columns ≤ 256 },
+}
+
+impl<'f, F: Field> Elimination<'f, F> {
+    // For matrices of the code's size.
+    pub(crate) fn new(field: &'f F, code: &Code) -> Self
+        ensures field { result.field.now ≡ field.now }
+        ensures rows { result.rows ≡ code.now.header.rows }
+        ensures columns { result.columns ≡ code.now.header.columns }
+    {
+        let header = code.header();
+        Elimination {
+            field,
+            products: products::multiply_all(field),
+            rows: header.rows as usize,
+            columns: header.columns as usize,
+        }
+    }
+
+    // Where the entry in row `r` and column `c` stands.
+    pub(crate) fn place(&self, r: usize, c: usize) -> usize
+        requires row { r < self.now.rows }
+        requires column { c < self.now.columns }
+        ensures is { result ≡ r * self.now.columns + c }
+        ensures within { result < self.now.rows * self.now.columns }
+    {
+        r * self.columns + c
+    }
+
+    // Lays the matrix of the edges and reduces it, so that `owners` has the check column of each row that has one.
+    pub(crate) fn eliminate(&self, edges: &[Edge], owners: &mut [Option<u16>], matrix: &mut [u8])
+        requires listed { Listed (F.Field.meaning self.now.field.now).order self.now.rows self.now.columns edges.now }
+        requires room { self.now.rows * self.now.columns ≤ length matrix.old }
+        requires owners { length owners.old ≡ self.now.rows }
+        requires fresh { (r : ℕ) → r < self.now.rows → slice_index_or owners.old r None ≡ None }
+        ensures { Reduced (F.Field.meaning self.now.field.now) (matrix_of self.now.rows self.now.columns edges.now) (laid matrix.new self.now.rows self.now.columns) 0 owners.new }
+    {
+        self.lay(edges, matrix);
+        self.reduce(matrix, owners);
+    }
 }

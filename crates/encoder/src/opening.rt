@@ -18,12 +18,7 @@ fn information_length(code: &Code) -> usize
 fn are_codes(order: u8, symbols: &[u8]) -> bool
     ensures { result ≡ are_codes order symbols.now }
 {
-    for i in 0..symbols.len() {
-        if symbols[i] >= order {
-            return false;
-        }
-    }
-    true
+    symbols.iter().all(|symbol| *symbol < order)
 }
 
 // Tests the order, the lengths of scratch, symbols and word, and what is given to read.

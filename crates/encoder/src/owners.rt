@@ -1,46 +1,14 @@
 // Which columns the rows own, and the symbols of the others.
-ghost use Rattle.std.specs.Prelude.{◌≡◌, ℕ, ◌<◌, ◌≤◌, not, length, Some, None, ◌==◌, slice_index_or, slice_set};
+ghost use Rattle.std.specs.Prelude.{◌≡◌, ℕ, ◌<◌, ◌≤◌, not, length, ◌==◌};
 ghost use Rattle.linear.specs.Count.{count};
-ghost use Rattle.linear.specs.Filling.{owns, owned_by, free_of, Placed, Gathered};
-
-// No row owns a column.
-pub(crate) fn disown(owners: &mut [Option<u16>])
-    ensures { (r : ℕ) → r < length owners.new → slice_index_or owners.new r None ≡ None }
-{
-    for r in 0..owners.len() {
-        owners[r] = None;
-    }
-}
-
-// Makes row `i` the owner of column `c`.
-pub(crate) fn give(owners: &mut [Option<u16>], i: usize, c: usize)
-    requires row { i < length owners.old }
-    requires column { c < 256 }
-    ensures { owners.new ≡ slice_set owners.old i (Some c) }
-{
-    owners[i] = Some(c as u16);
-}
-
-// Whether the owner's column is `c`.
-fn owns(owner: Option<u16>, c: usize) -> bool
-    ensures { result ≡ owns owner c }
-{
-    match owner {
-        Some(column) => column as usize == c,
-        None => false,
-    }
-}
+ghost use Rattle.linear.specs.Filling.{owned_by, free_of, Placed, Gathered};
 
 // Whether some row owns column `c`.
 fn owned(owners: &[Option<u16>], c: usize) -> bool
+    requires { c < 256 }
     ensures { result ≡ owned_by owners.now (length owners.now) c }
 {
-    for r in 0..owners.len() {
-        if owns(owners[r], c) {
-            return true;
-        }
-    }
-    false
+    owners.contains(&Some(c as u16))
 }
 
 // How many of the first `n` columns no row owns.
@@ -48,13 +16,7 @@ fn free_columns(owners: &[Option<u16>], n: usize) -> usize
     requires { n ≤ 256 }
     ensures { result ≡ count n (free_of owners.now (length owners.now)) }
 {
-    let mut k = 0;
-    for c in 0..n {
-        if !owned(owners, c) {
-            k += 1;
-        }
-    }
-    k
+    (0..n).filter(|c| !owned(owners, *c)).count()
 }
 
 // Whether the rows depend on each other: whether more columns are free than the word has symbols.
@@ -71,14 +33,13 @@ pub(crate) fn place(owners: &[Option<u16>], symbols: &[u8], word: &mut [u8])
     requires enough { length symbols.now ≡ count (length word.old) (free_of owners.now (length owners.now)) }
     ensures { Placed (length owners.now) owners.now symbols.now word.new (length word.old) }
 {
-    let mut k = 0;
-    for c in 0..word.len() {
-        if owned(owners, c) {
-            word[c] = 0;
+    let mut rest = symbols.iter();
+    for (c, place) in word.iter_mut().enumerate() {
+        *place = if owned(owners, c) {
+            0
         } else {
-            word[c] = symbols[k];
-            k += 1;
-        }
+            *rest.next().unwrap_or(&0)
+        };
     }
 }
 
@@ -89,9 +50,9 @@ pub(crate) fn gather(owners: &[Option<u16>], word: &[u8], symbols: &mut [u8])
     ensures { Gathered (length owners.now) owners.now word.now symbols.new (length word.now) }
 {
     let mut k = 0;
-    for c in 0..word.len() {
+    for (c, symbol) in word.iter().enumerate() {
         if !owned(owners, c) {
-            symbols[k] = word[c];
+            symbols[k] = *symbol;
             k += 1;
         }
     }

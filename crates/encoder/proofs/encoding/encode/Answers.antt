@@ -1,15 +1,13 @@
-use Rattle.std.proofs.Common.{◌≡◌, ◌-◌, ◌*◌, cond, not, eqb, ltb, length, Ok, Err, sym, refl, ap, ◌∙◌, arith}
+use Rattle.std.proofs.Common.{◌≡◌, ◌*◌, cond, not, eqb, ltb, length, Ok, Err, sym, refl, ap, ◌∙◌}
 use Rattle.std.proofs.lemmas.Result.{err_from_is_err_and}
-use Rattle.code.specs.declared.table.Header.{Header}
 use Rattle.linear.proofs.Laws.{laws_stand}
 use Rattle.linear.specs.Encoded.{the_word}
 use Rattle.linear.specs.Rows.{dependent}
-use Rattle.linear.specs.Words.{Matrix}
 use Rattle.encoder.specs.Answers.{Answer, are_codes, granted, information_length, opening, refuse, uses_scratch}
 use Rattle.encoder.specs.CheckMatrix.{check_matrix}
 use Rattle.encoder.specs.Opened.{Opened}
 use Rattle.encoder.specs.declared.refusal.CoderRefusal.TheVariants.{Dependent}
-use Rattle.encoder.proofs.Admitted.{check_entries, fewer_is, header_fits, listed_is, matrix_is, matrix_told, room_is}
+use Rattle.encoder.proofs.Admitted.{check_entries, fewer, matrix_told}
 use Rattle.encoder.proofs.Computed.{example_a}
 use Rattle.encoder.proofs.Passing.{opened, opening_rest, opening_stops}
 use Rattle.encoder.proofs.Promised.{early, encoding_law, encoding_refused, fails_scratch}
@@ -41,26 +39,16 @@ returns-in_err-open g c = record {
         (refuse (dependent (g.F.Field.meaning c.args.field.now) (check_matrix c.args.code.now)) Dependent (Ok tt))
 
 pub encode_opened-requires : goal.encode_opened-requires
-encode_opened-requires g c = record {
-  listed = listed_is c.args.code.now c.header-header.result c.edges.result.now c.header-header.ensures.answer c.edges.ensures.answer (g.F.Field.meaning c.args.field.now).order past.order;
-  room = room_is c.args.code.now c.header-header.result c.edges.result.now c.header-header.ensures.answer c.edges.ensures.answer c.args.scratch.now past.room;
-  fewer = fewer_is c.args.code.now c.header-header.result c.edges.result.now c.header-header.ensures.answer c.edges.ensures.answer;
-  many = past.many ∙ ap (λ (h : Header). h.columns - h.rows) (sym c.header-header.ensures.answer);
-  codes = past.codes;
-  long = past.long ∙ ap (λ (h : Header). h.columns) (sym c.header-header.ensures.answer);
-}
-  where
-    past : Opened (g.F.Field.meaning c.args.field.now) c.args.code.now (length c.args.symbols.now) (length c.args.scratch.now) (length c.args.word.now) c.args.symbols.now
-    past = opened (g.F.Field.meaning c.args.field.now) c.args.code.now (length c.args.symbols.now) (length c.args.scratch.now) (length c.args.word.now) c.args.symbols.now (sym c.in_ok-open.ensures)
+encode_opened-requires g c = opened (g.F.Field.meaning c.args.field.now) c.args.code.now (length c.args.symbols.now) (length c.args.scratch.now) (length c.args.word.now) c.args.symbols.now (sym c.in_ok-open.ensures)
 
 pub returns : goal.returns
 returns g c = record {
-  answer = at_code ∙ sym rest;
-  word = word ∙ ap (λ (a : Answer). cond (granted a) (the_word (g.F.Field.meaning c.args.field.now) (check_matrix c.args.code.now) c.args.symbols.now) c.args.word.now) (at_code ∙ sym rest);
-  scratch = λ e. absurd (fails_scratch (dependent (g.F.Field.meaning c.args.field.now) (check_matrix c.args.code.now)) (ap uses_scratch (sym at_code) ∙ e));
+  answer = c.encode_opened.ensures.answer ∙ sym rest;
+  word = c.encode_opened.ensures.word ∙ ap (λ (a : Answer). cond (granted a) (the_word (g.F.Field.meaning c.args.field.now) (check_matrix c.args.code.now) c.args.symbols.now) c.args.word.now) (c.encode_opened.ensures.answer ∙ sym rest);
+  scratch = λ e. absurd (fails_scratch (dependent (g.F.Field.meaning c.args.field.now) (check_matrix c.args.code.now)) (ap uses_scratch (sym c.encode_opened.ensures.answer) ∙ e));
   law = encoding_law (g.F.Field.meaning c.args.field.now) (g.met.F.Field.lawful c.args.field.now) (check_matrix c.args.code.now)
       (check_entries c.args.code.now (g.F.Field.meaning c.args.field.now) (g.met.F.Field.lawful c.args.field.now) past.order)
-      c.encode_opened.result at_code c.args.symbols.now c.encode_opened.new.word c.args.word.now (let f = (header_fits c.args.code.now).fewer in omega arith) past.many past.codes word;
+      c.encode_opened.result c.encode_opened.ensures.answer c.args.symbols.now c.encode_opened.new.word c.args.word.now (fewer c.args.code.now) past.many past.codes c.encode_opened.ensures.word;
   matrix = matrix_told c.args.code.now;
   theory = laws_stand;
   example = example_a;
@@ -76,11 +64,3 @@ returns g c = record {
         (refuse (dependent (g.F.Field.meaning c.args.field.now) (check_matrix c.args.code.now)) Dependent (Ok tt)) ≡ refuse (dependent (g.F.Field.meaning c.args.field.now) (check_matrix c.args.code.now)) Dependent (Ok tt)
     rest = opening_rest (g.F.Field.meaning c.args.field.now) c.args.code.now (length c.args.symbols.now) (length c.args.scratch.now) (length c.args.word.now) c.args.symbols.now passes
         (refuse (dependent (g.F.Field.meaning c.args.field.now) (check_matrix c.args.code.now)) Dependent (Ok tt))
-
-    at_code : c.encode_opened.result ≡ refuse (dependent (g.F.Field.meaning c.args.field.now) (check_matrix c.args.code.now)) Dependent (Ok tt)
-    at_code = c.encode_opened.ensures.answer ∙ ap (λ (H : Matrix). refuse (dependent (g.F.Field.meaning c.args.field.now) H) Dependent (Ok tt))
-        (matrix_is c.args.code.now c.header-header.result c.edges.result.now c.header-header.ensures.answer c.edges.ensures.answer)
-
-    word : c.encode_opened.new.word ≡ cond (granted c.encode_opened.result) (the_word (g.F.Field.meaning c.args.field.now) (check_matrix c.args.code.now) c.args.symbols.now) c.args.word.now
-    word = c.encode_opened.ensures.word ∙ ap (λ (H : Matrix). cond (granted c.encode_opened.result) (the_word (g.F.Field.meaning c.args.field.now) H c.args.symbols.now) c.args.word.now)
-        (matrix_is c.args.code.now c.header-header.result c.edges.result.now c.header-header.ensures.answer c.edges.ensures.answer)

@@ -1,15 +1,13 @@
-use Rattle.std.proofs.Common.{◌≡◌, ◌-◌, ◌*◌, cond, not, eqb, ltb, length, Ok, Err, sym, refl, ap, ◌∙◌, arith}
+use Rattle.std.proofs.Common.{◌≡◌, ◌*◌, cond, not, eqb, ltb, length, Ok, Err, sym, refl, ap, ◌∙◌, arith}
 use Rattle.std.proofs.lemmas.Result.{err_from_is_err_and}
-use Rattle.code.specs.declared.table.Header.{Header}
 use Rattle.linear.proofs.Laws.{laws_stand}
 use Rattle.linear.specs.Encoded.{symbols_of}
 use Rattle.linear.specs.Rows.{dependent, row_fails}
-use Rattle.linear.specs.Words.{Matrix}
 use Rattle.encoder.specs.Answers.{Answer, are_codes, granted, information_length, opening, refuse}
 use Rattle.encoder.specs.CheckMatrix.{check_matrix}
 use Rattle.encoder.specs.Opened.{Opened}
 use Rattle.encoder.specs.declared.refusal.CoderRefusal.TheVariants.{RowFails, Dependent}
-use Rattle.encoder.proofs.Admitted.{check_entries, fewer_is, listed_is, matrix_is, matrix_told, room_is}
+use Rattle.encoder.proofs.Admitted.{check_entries, matrix_told}
 use Rattle.encoder.proofs.Passing.{opened, opening_rest, opening_stops}
 use Rattle.encoder.proofs.Promised.{early, extraction_law, extraction_refused}
 use Rattle.encoder.proofs.extraction.extract.Goals as goal
@@ -39,26 +37,16 @@ returns-in_err-open g c = record {
         (refuse (row_fails (g.F.Field.meaning c.args.field.now) (check_matrix c.args.code.now) c.args.word.now) RowFails (refuse (dependent (g.F.Field.meaning c.args.field.now) (check_matrix c.args.code.now)) Dependent (Ok tt)))
 
 pub extract_opened-requires : goal.extract_opened-requires
-extract_opened-requires g c = record {
-  listed = listed_is c.args.code.now c.header-header.result c.edges.result.now c.header-header.ensures.answer c.edges.ensures.answer (g.F.Field.meaning c.args.field.now).order past.order;
-  room = room_is c.args.code.now c.header-header.result c.edges.result.now c.header-header.ensures.answer c.edges.ensures.answer c.args.scratch.now past.room;
-  fewer = fewer_is c.args.code.now c.header-header.result c.edges.result.now c.header-header.ensures.answer c.edges.ensures.answer;
-  many = past.many ∙ ap (λ (h : Header). h.columns - h.rows) (sym c.header-header.ensures.answer);
-  codes = past.codes;
-  long = past.long ∙ ap (λ (h : Header). h.columns) (sym c.header-header.ensures.answer);
-}
-  where
-    past : Opened (g.F.Field.meaning c.args.field.now) c.args.code.now (length c.args.symbols.now) (length c.args.scratch.now) (length c.args.word.now) c.args.word.now
-    past = opened (g.F.Field.meaning c.args.field.now) c.args.code.now (length c.args.symbols.now) (length c.args.scratch.now) (length c.args.word.now) c.args.word.now (sym c.in_ok-open.ensures)
+extract_opened-requires g c = opened (g.F.Field.meaning c.args.field.now) c.args.code.now (length c.args.symbols.now) (length c.args.scratch.now) (length c.args.word.now) c.args.word.now (sym c.in_ok-open.ensures)
 
 pub returns : goal.returns
 returns g c = record {
-  answer = at_code ∙ sym rest;
-  symbols = symbols ∙ ap (λ (a : Answer). cond (granted a) (symbols_of (g.F.Field.meaning c.args.field.now) (check_matrix c.args.code.now) c.args.word.now) c.args.symbols.now) (at_code ∙ sym rest);
+  answer = c.extract_opened.ensures.answer ∙ sym rest;
+  symbols = c.extract_opened.ensures.symbols ∙ ap (λ (a : Answer). cond (granted a) (symbols_of (g.F.Field.meaning c.args.field.now) (check_matrix c.args.code.now) c.args.word.now) c.args.symbols.now) (c.extract_opened.ensures.answer ∙ sym rest);
   scratch = c.extract_opened.ensures.scratch;
   law = extraction_law (g.F.Field.meaning c.args.field.now) (g.met.F.Field.lawful c.args.field.now) (check_matrix c.args.code.now)
       (check_entries c.args.code.now (g.F.Field.meaning c.args.field.now) (g.met.F.Field.lawful c.args.field.now) past.order)
-      c.extract_opened.result c.args.word.now c.extract_opened.new.symbols c.args.symbols.now (record { long = past.long; below = λ i h. past.codes i (let l = past.long in omega arith) }) at_code symbols;
+      c.extract_opened.result c.args.word.now c.extract_opened.new.symbols c.args.symbols.now (record { long = past.long; below = λ i h. past.codes i (let l = past.long in omega arith) }) c.extract_opened.ensures.answer c.extract_opened.ensures.symbols;
   matrix = matrix_told c.args.code.now;
   theory = laws_stand;
 }
@@ -73,11 +61,3 @@ returns g c = record {
         (refuse (row_fails (g.F.Field.meaning c.args.field.now) (check_matrix c.args.code.now) c.args.word.now) RowFails (refuse (dependent (g.F.Field.meaning c.args.field.now) (check_matrix c.args.code.now)) Dependent (Ok tt))) ≡ refuse (row_fails (g.F.Field.meaning c.args.field.now) (check_matrix c.args.code.now) c.args.word.now) RowFails (refuse (dependent (g.F.Field.meaning c.args.field.now) (check_matrix c.args.code.now)) Dependent (Ok tt))
     rest = opening_rest (g.F.Field.meaning c.args.field.now) c.args.code.now (length c.args.symbols.now) (length c.args.scratch.now) (length c.args.word.now) c.args.word.now passes
         (refuse (row_fails (g.F.Field.meaning c.args.field.now) (check_matrix c.args.code.now) c.args.word.now) RowFails (refuse (dependent (g.F.Field.meaning c.args.field.now) (check_matrix c.args.code.now)) Dependent (Ok tt)))
-
-    at_code : c.extract_opened.result ≡ refuse (row_fails (g.F.Field.meaning c.args.field.now) (check_matrix c.args.code.now) c.args.word.now) RowFails (refuse (dependent (g.F.Field.meaning c.args.field.now) (check_matrix c.args.code.now)) Dependent (Ok tt))
-    at_code = c.extract_opened.ensures.answer ∙ ap (λ (H : Matrix). refuse (row_fails (g.F.Field.meaning c.args.field.now) H c.args.word.now) RowFails (refuse (dependent (g.F.Field.meaning c.args.field.now) H) Dependent (Ok tt)))
-        (matrix_is c.args.code.now c.header-header.result c.edges.result.now c.header-header.ensures.answer c.edges.ensures.answer)
-
-    symbols : c.extract_opened.new.symbols ≡ cond (granted c.extract_opened.result) (symbols_of (g.F.Field.meaning c.args.field.now) (check_matrix c.args.code.now) c.args.word.now) c.args.symbols.now
-    symbols = c.extract_opened.ensures.symbols ∙ ap (λ (H : Matrix). cond (granted c.extract_opened.result) (symbols_of (g.F.Field.meaning c.args.field.now) H c.args.word.now) c.args.symbols.now)
-        (matrix_is c.args.code.now c.header-header.result c.edges.result.now c.header-header.ensures.answer c.edges.ensures.answer)

@@ -1,9 +1,10 @@
-use Rattle.std.proofs.Common.{sym, arith}
-use Rattle.encoder.proofs.Passing.{codes_yes, codes_no}
+use Rattle.std.proofs.Common.{ltb, ◌∙◌, rules, tests}
+use Rattle.std.proofs.lemmas.Iterator.{YieldsList-from_slice}
+use Rattle.std.proofs.lemmas.Iterator.Search.{all_from_yields_List}
+use Rattle.encoder.proofs.Tested.{every_in_list}
 use Rattle.encoder.proofs.opening.are_codes.Goals as goal
 
 pub returns : goal.returns
-returns c = sym (codes_yes c.args.order c.args.symbols.now (λ i l. c.loop-i.invariant i (omega arith)))
-
-pub returns-then-symbols-i : goal.returns-then-symbols-i
-returns-then-symbols-i c = sym (codes_no c.args.order c.args.symbols.now c.loop-i.i c.loop-i-test.true (omega arith))
+returns c =
+    all_from_yields_List (λ x. ltb x c.args.order) _ _ c.all.result c.all.ensures.ran (YieldsList-from_slice c.args.symbols.now (cc)) (λ x b q k. search (rules, tests))
+    ∙ every_in_list (λ x. ltb x c.args.order) c.args.symbols.now 0

@@ -1,14 +1,12 @@
-use Rattle.std.proofs.Common.{length, sym, ◌∙◌, arith}
-use Rattle.linear.proofs.Placing.{count_owned, count_free, count_none}
+use Rattle.std.proofs.Common.{length, ◌∙◌, arith, rules, tests}
+use Rattle.linear.specs.Filling.{free_of}
+use Rattle.std.proofs.lemmas.Iterator.{YieldsList-from_range}
+use Rattle.std.proofs.lemmas.Iterator.Consumers.{YieldsList-from_filter, count_from_yields_List}
+use Rattle.encoder.proofs.Tested.{count_in_range}
 use Rattle.encoder.proofs.owners.free_columns.Goals as goal
-use Rattle.encoder.proofs.owners.free_columns.Goals.{then-not-owned, else-not-owned}
 
-pub loop-c-init : goal.loop-c-init
-loop-c-init c = (sym (count_none _), omega arith)
-
-pub loop-c-preserved : goal.loop-c-preserved
-loop-c-preserved c =
-    elim c.if-not-owned.branch [
-      | then-not-owned w ↦ (let e = count_free c.args.owners.now (length c.args.owners.now) c.loop-c.c (sym c.owned.ensures ∙ w.if-not-owned.true) in (omega arith, omega arith))
-      | else-not-owned w ↦ (let e = count_owned c.args.owners.now (length c.args.owners.now) c.loop-c.c (sym c.owned.ensures ∙ w.if-not-owned.false) in (omega arith, omega arith))
-    ]
+pub returns : goal.returns
+returns c =
+    count_from_yields_List c.filter.result c.count.result c.count.ensures.ran
+    (YieldsList-from_filter _ (free_of c.args.owners.now (length c.args.owners.now)) (YieldsList-from_range 0 c.args.n c.args.n c.filter.ensures.source (omega arith)) c.filter.ensures.closure (λ x b q k. search (rules, tests)))
+    ∙ count_in_range (free_of c.args.owners.now (length c.args.owners.now)) c.args.n

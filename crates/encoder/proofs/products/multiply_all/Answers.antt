@@ -1,4 +1,4 @@
-use Rattle.std.proofs.Common.{◌≡◌, ℕ, ◌*◌, ◌/◌, ◌%◌, ◌<◌, ◌≤◌, length, ap, ◌∙◌, subst, arith}
+use Rattle.std.proofs.Common.{◌≡◌, ℕ, ◌*◌, ◌/◌, ◌%◌, ◌<◌, ◌≤◌, length, length-set, ap, ◌∙◌, subst, arith}
 use Rattle.encoder.specs.Bytes.{ProductsTo}
 use Rattle.encoder.proofs.Multiplied.{square, quotient_below, rest_below, products_more, products_all}
 use Rattle.encoder.proofs.products.multiply_all.Goals as goal
@@ -23,10 +23,13 @@ pub bounds-products-x : goal.bounds-products-x
 bounds-products-x g c = let s = square c.order-q.result (let l = (g.met.F.Field.lawful c.args.field.now).high in omega arith) in omega arith
 
 pub loop-x-preserved : goal.loop-x-preserved
-loop-x-preserved g c = products_more (g.F.Field.meaning c.args.field.now) c.loop-x.products c.loop-x.x c.times.result
-    (let s = square c.order-q.result (let l = (g.met.F.Field.lawful c.args.field.now).high in omega arith) in omega arith)
-    (c.times.ensures.is ∙ ap (λ (q : ℕ). (g.F.Field.meaning c.args.field.now).product (c.loop-x.x / q) (c.loop-x.x % q)) c.order-q.ensures)
-    c.loop-x.invariant
+loop-x-preserved g c = (
+  length-set c.loop-x.products c.loop-x.x c.times.result ∙ c.loop-x.invariant.0,
+  products_more (g.F.Field.meaning c.args.field.now) c.loop-x.products c.loop-x.x c.times.result
+      (let s = square c.order-q.result (let l = (g.met.F.Field.lawful c.args.field.now).high in omega arith) in omega arith)
+      (c.times.ensures.is ∙ ap (λ (q : ℕ). (g.F.Field.meaning c.args.field.now).product (c.loop-x.x / q) (c.loop-x.x % q)) c.order-q.ensures)
+      c.loop-x.invariant.1,
+)
 
 pub returns : goal.returns
 returns g c =
@@ -37,4 +40,4 @@ returns g c =
     products_all (g.F.Field.meaning c.args.field.now) c.loop-x.products
     (subst (λ (x : ℕ). x * x ≤ length c.loop-x.products) e (omega arith))
     (subst (λ (x : ℕ). ProductsTo (g.F.Field.meaning c.args.field.now) c.loop-x.products (x * x)) e
-    (subst (λ (x : ℕ). ProductsTo (g.F.Field.meaning c.args.field.now) c.loop-x.products x) all c.loop-x.invariant))
+    (subst (λ (x : ℕ). ProductsTo (g.F.Field.meaning c.args.field.now) c.loop-x.products x) all c.loop-x.invariant.1))
