@@ -1,5 +1,6 @@
 -- A table of all products: one more, and all. Assumes nothing.
-use Rattle.std.proofs.Common.{◌≡◌, ℕ, ◌+◌, ◌*◌, ◌/◌, ◌%◌, ◌<◌, ◌≤◌, ◌≢◌, List, length, get_or, set, ◌∙◌, ap₂, mod-lt, div-lt_iff_lt-mul, mul-le-mul, arith, get_or-set_other, get_or-set_same, below_more}
+use Rattle.std.proofs.Common.{◌≡◌, ℕ, ◌+◌, ◌-◌, ◌*◌, take, drop, ap, length-drop, ◌/◌, ◌%◌, ◌<◌, ◌≤◌, ◌≢◌, List, length, get_or, set, ◌∙◌, ap₂, mod-lt, div-lt_iff_lt-mul, mul-le-mul, arith, get_or-set_other, get_or-set_same, below_more}
+use Rattle.std.proofs.lemmas.List.{get_or-drop, get_or-take, length-take}
 use lib.Arith.{digits_lt, digits_div, digits_mod}
 use Rattle.field.specs.Tables.{Tables}
 use Rattle.encoder.specs.Bytes.{ProductsTo, Products}
@@ -23,3 +24,16 @@ pub products_all : (t : Tables) → (ps : List ℕ) → t.order * t.order ≤ le
 products_all t ps room inv a b ha hb =
     let lt : a * t.order + b < t.order * t.order = digits_lt ha hb in
     (omega arith, inv (a * t.order + b) lt ∙ ap₂ t.product (digits_div a hb) (digits_mod a hb))
+
+-- the row of a code in the table
+pub row_of : (t : Tables) → t.order ≤ 64 → (ps : List ℕ) (a q : ℕ) → q ≡ t.order → Products t ps → a < t.order → (b : ℕ) → b < t.order →
+    (b < length (take (4096 - a * q) (drop (a * q) ps))) × (get_or (take (4096 - a * q) (drop (a * q) ps)) b 0 ≡ t.product a b)
+row_of t high ps a q e all ha b hb =
+    let p = all a b ha hb in
+    let at : a * q + b ≡ a * t.order + b = ap (λ (x : ℕ). a * x + b) e in
+    let low : a * t.order + b < t.order * t.order = digits_lt ha hb in
+    let top = square t.order high in
+    let in_table = p.0 in
+    let rest = length-drop (a * q) ps in
+    let front = length-take (4096 - a * q) (drop (a * q) ps) in
+    (omega arith, get_or-take (4096 - a * q) (drop (a * q) ps) b 0 (omega arith) ∙ get_or-drop (a * q) ps b 0 ∙ ap (λ (x : ℕ). get_or ps x 0) at ∙ p.1)

@@ -1,4 +1,5 @@
 // What a field answers for codes that are known to be below its order.
+// Stays (rule): other crates have the like for themselves. To share it, it would have to be public, and no public function has a `requires`.
 ghost use Rattle.std.specs.Prelude.{◌≡◌, ◌<◌, ◌≢◌};
 
 use field::Field;

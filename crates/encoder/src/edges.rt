@@ -24,6 +24,7 @@ impl<'f, F: Field> Elimination<'f, F> {
 }
 
 // The coefficients of the row's edges times the symbols of the word, summed.
+// Stays (speed): `row_sum` sums a laid row by the table of products; here there is neither yet, and a word with a fault never needs them.
 fn edge_sum<F: Field>(field: &F, edges: &[Edge], word: &[u8], row: usize) -> u8
     requires listed { (m : ℕ) × Listed (F.Field.meaning field.now).order m (length word.now) edges.now }
     requires codes { Below (F.Field.meaning field.now).order word.now }

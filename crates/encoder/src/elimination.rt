@@ -10,6 +10,8 @@ use code::table::Edge;
 use field::Field;
 
 // What stays the same while a matrix is reduced: the field, the products of any two of its codes, and the matrix's size.
+// Stays (plain): the lent bytes of the matrix are no field. Each method that writes them would then have to promise that it keeps the reference and both sizes,
+// and that is three clauses for the two that now say what the bytes hold.
 #[derive(Drop)]
 pub(crate) struct Elimination<'f, F: Field> {
     pub(crate) field: &'f F,
@@ -37,6 +39,16 @@ impl<'f, F: Field> Elimination<'f, F> {
         }
     }
 
+    // Where row `r` begins.
+    pub(crate) fn start(&self, r: usize) -> usize
+        requires { r < self.now.rows }
+        ensures is { result ≡ r * self.now.columns }
+        ensures within { result + self.now.columns ≤ self.now.rows * self.now.columns }
+        ensures small { result + self.now.columns ≤ 32768 }
+    {
+        r * self.columns
+    }
+
     // Where the entry in row `r` and column `c` stands.
     pub(crate) fn place(&self, r: usize, c: usize) -> usize
         requires row { r < self.now.rows }
@@ -44,7 +56,7 @@ impl<'f, F: Field> Elimination<'f, F> {
         ensures is { result ≡ r * self.now.columns + c }
         ensures within { result < self.now.rows * self.now.columns }
     {
-        r * self.columns + c
+        self.start(r) + c
     }
 
     // Lays the matrix of the edges and reduces it, so that `owners` has the check column of each row that has one.

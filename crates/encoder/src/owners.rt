@@ -1,7 +1,16 @@
 // Which columns the rows own, and the symbols of the others.
-ghost use Rattle.std.specs.Prelude.{◌≡◌, ℕ, ◌<◌, ◌≤◌, not, length, ◌==◌};
+ghost use Rattle.std.specs.Prelude.{◌≡◌, ℕ, ◌<◌, ◌≤◌, not, length, Some, ◌==◌, slice_set};
 ghost use Rattle.linear.specs.Count.{count};
 ghost use Rattle.linear.specs.Filling.{owned_by, free_of, Placed, Gathered};
+
+// Makes row `i` the owner of column `c`.
+pub(crate) fn give(owners: &mut [Option<u16>], i: usize, c: usize)
+    requires row { i < length owners.old }
+    requires column { c < 256 }
+    ensures { owners.new ≡ slice_set owners.old i (Some c) }
+{
+    owners[i] = Some(c as u16);
+}
 
 // Whether some row owns column `c`.
 fn owned(owners: &[Option<u16>], c: usize) -> bool

@@ -1,5 +1,5 @@
 // The products of all codes in one table, so that a row is added without a product of its own.
-ghost use Rattle.std.specs.Prelude.{◌≡◌, ◌<◌};
+ghost use Rattle.std.specs.Prelude.{◌≡◌, ℕ, ◌<◌, length, slice_index};
 ghost use Rattle.encoder.specs.Bytes.{Products};
 
 use crate::codes;
@@ -19,14 +19,22 @@ pub(crate) fn multiply_all<F: Field>(field: &F) -> [u8; 4096]
 }
 
 impl<'f, F: Field> Elimination<'f, F> {
-    // The product of two codes, from the table.
+    // The products of `a` with each code, from the table.
+    pub(crate) fn multiples(&self, a: u8) -> &[u8]
+        requires { a < (F.Field.meaning self.now.field.now).order }
+        ensures { (b : ℕ) → b < (F.Field.meaning self.now.field.now).order → (b < length result.now) × (slice_index result.now b ≡ (F.Field.meaning self.now.field.now).product a b) }
+    {
+        &self.products[a as usize * self.field.order() as usize..]
+    }
+
+    // The product of two codes.
     pub(crate) fn product(&self, a: u8, b: u8) -> u8
         requires left { a < (F.Field.meaning self.now.field.now).order }
         requires right { b < (F.Field.meaning self.now.field.now).order }
         ensures is { result ≡ (F.Field.meaning self.now.field.now).product a b }
         ensures code { result < (F.Field.meaning self.now.field.now).order }
     {
-        self.products[a as usize * self.field.order() as usize + b as usize]
+        self.multiples(a)[b as usize]
     }
 
     // The opposite of `entry` over `pivot`, from the inverse of the pivot: that multiple of the pivot takes the entry away.

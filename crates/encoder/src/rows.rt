@@ -3,8 +3,8 @@ ghost use Rattle.std.specs.Prelude.{◌≡◌, ℕ, ◌+◌, ◌*◌, ◌<◌, �
 ghost use Rattle.linear.specs.Elimination.{Added, OneCleared, Cleared, Reduced};
 ghost use Rattle.encoder.specs.Bytes.{laid, CodesLaid, Idle};
 
-use crate::codes;
 use crate::elimination::Elimination;
+use crate::{codes, owners};
 use field::Field;
 
 impl<'f, F: Field> Elimination<'f, F> {
@@ -17,10 +17,13 @@ impl<'f, F: Field> Elimination<'f, F> {
         requires factor { factor < (F.Field.meaning self.now.field.now).order }
         ensures { Added (F.Field.meaning self.now.field.now) (laid matrix.old self.now.rows self.now.columns) (laid matrix.new self.now.rows self.now.columns) target source factor self.now.columns }
     {
+        let multiples = self.multiples(factor);
+        let to = self.start(target);
+        let from = self.start(source);
+        // Stays (plain): both rows lie in one lent slice. To go over them side by side it would have to be cut between them, in one way for each order of the two.
         for j in 0..self.columns {
-            let at = self.place(target, j);
-            let more = self.product(factor, matrix[self.place(source, j)]);
-            matrix[at] = codes::plus(self.field, matrix[at], more);
+            let more = multiples[matrix[from + j] as usize];
+            matrix[to + j] = codes::plus(self.field, matrix[to + j], more);
         }
     }
 
@@ -83,7 +86,7 @@ impl<'f, F: Field> Elimination<'f, F> {
         for c in (0..self.columns).rev() {
             if let Some(i) = self.find_row(matrix, owners, c) {
                 self.clear(matrix, i, c);
-                owners[i] = Some(c as u16);
+                owners::give(owners, i, c);
             }
         }
     }

@@ -17,18 +17,7 @@ const EDGE: Edge = Edge {
 
 const ENTRY: Entry = Entry { column: 0, row: 0 };
 
-fn same(a: &[u8], b: &[u8]) -> bool {
-    if a.len() != b.len() {
-        return false;
-    }
-    for i in 0..a.len() {
-        if a[i] != b[i] {
-            return false;
-        }
-    }
-    true
-}
-
+// Whether the symbols come back; none if a call refuses.
 fn comes_back<'x>(
     edges: &'x [Edge],
     entries: &'x [Entry],
@@ -36,21 +25,13 @@ fn comes_back<'x>(
     scratch: &mut [u8],
     word: &mut [u8],
     symbols: &mut [u8],
-) -> bool {
-    let Ok(field) = Binary::new(6, 67) else {
-        return false;
-    };
+) -> Option<bool> {
+    let field = Binary::new(6, 67).ok()?;
     let mut code: Code<'x> = Code::builtin();
-    if admit(tables::HEADER, edges, entries, &mut code).is_err() {
-        return false;
-    }
-    if encode(&field, &code, given, scratch, word).is_err() {
-        return false;
-    }
-    if extract(&field, &code, word, scratch, symbols).is_err() {
-        return false;
-    }
-    same(given, symbols)
+    admit(tables::HEADER, edges, entries, &mut code).ok()?;
+    encode(&field, &code, given, scratch, word).ok()?;
+    extract(&field, &code, word, scratch, symbols).ok()?;
+    Some(*given == *symbols)
 }
 
 // Fills the tables and the symbols, and goes there and back.
@@ -61,7 +42,7 @@ fn filled(
     scratch: &mut [u8],
     word: &mut [u8],
     symbols: &mut [u8],
-) -> bool {
+) -> Option<bool> {
     tables::fill_edges(edges);
     tables::fill_entries(entries);
     tables::fill_symbols(given);
@@ -82,6 +63,7 @@ fn main(rt: HostRuntime) {
         &mut scratch,
         &mut word,
         &mut symbols,
-    );
+    )
+    .unwrap_or(false);
     let _ = println!(rt; "{back}");
 }

@@ -11,11 +11,11 @@ pub const HEADER: Header = Header {
 
 // Row `r` has an edge in each block of 32 columns; the rows of a group of 32 turn from block to block, each group at its own pace.
 pub fn fill_edges(edges: &mut [Edge]) {
-    for k in 0..edges.len() {
+    for (k, edge) in edges.iter_mut().enumerate() {
         let row = k / 8 % 128;
         let block = k % 8;
         let turn = (row / 32).wrapping_mul(block);
-        edges[k] = Edge {
+        *edge = Edge {
             row: row as u16,
             column: (32 * block + row.wrapping_add(turn) % 32) as u16,
             coefficient: (1 + (29 * row + 17 * block + row / 5) % 63) as u8,
@@ -24,11 +24,11 @@ pub fn fill_edges(edges: &mut [Edge]) {
 }
 
 pub fn fill_entries(entries: &mut [Entry]) {
-    for k in 0..entries.len() {
+    for (k, entry) in entries.iter_mut().enumerate() {
         let column = k / 4 % 256;
         let group = k % 4;
         let turn = group.wrapping_mul(column / 32);
-        entries[k] = Entry {
+        *entry = Entry {
             column: column as u16,
             row: (32 * group + (column % 32).wrapping_add(256).wrapping_sub(turn) % 32) as u16,
         };
@@ -36,7 +36,7 @@ pub fn fill_entries(entries: &mut [Entry]) {
 }
 
 pub fn fill_symbols(symbols: &mut [u8]) {
-    for i in 0..symbols.len() {
-        symbols[i] = (i % 64) as u8;
+    for (i, symbol) in symbols.iter_mut().enumerate() {
+        *symbol = (i % 64) as u8;
     }
 }
