@@ -10,6 +10,7 @@ use std::process::Abort;
 use std::test::Fail;
 use tower::Tower;
 
+// Stays (plain): a constant's value calls no function, and a code borrows its table, so with a function each test would bind the tables first.
 const EDGES: [Edge; 6] = [
     Edge {
         row: 0,
@@ -52,10 +53,11 @@ const ENTRIES: [Entry; 6] = [
     Entry { column: 3, row: 1 },
 ];
 
-fn header(order: u16) -> Header {
+// Two rows over so many columns.
+fn header(order: u16, columns: u16) -> Header {
     Header {
         order,
-        columns: 4,
+        columns,
         rows: 2,
         ceiling: 31,
         limit: 20,
@@ -66,7 +68,7 @@ fn header(order: u16) -> Header {
 fn example(rt: HostRuntime) -> Result<(), Fail> {
     let field = Prime::new(3)?;
     let mut code = Code::builtin();
-    admit(header(3), &EDGES, &ENTRIES, &mut code)?;
+    admit(header(3, 4), &EDGES, &ENTRIES, &mut code)?;
     let mut scratch = [9; 8];
     let mut word = [9; 4];
     encode(&field, &code, &[1, 1], &mut scratch, &mut word)?;
@@ -90,7 +92,7 @@ fn round_trip<F: Field>(rt: &impl Abort, field: &F, code: &Code, a: u8, b: u8) -
 // Each pair of symbols comes back from its word.
 fn round_trips<F: Field>(rt: &impl Abort, field: &F) -> Result<(), Fail> {
     let mut code = Code::builtin();
-    admit(header(field.order() as u16), &EDGES, &ENTRIES, &mut code)?;
+    admit(header(field.order() as u16, 4), &EDGES, &ENTRIES, &mut code)?;
     for a in 0..field.order() {
         for b in 0..field.order() {
             round_trip(rt, field, &code, a, b)?;
@@ -106,6 +108,12 @@ fn fields(rt: HostRuntime) -> Result<(), Fail> {
     round_trips(&rt, &Tower::of_four())
 }
 
+fn is_untouched(rt: &impl Abort, buffer: &[u8]) {
+    for x in buffer {
+        assert_eq!(rt; *x, 9);
+    }
+}
+
 // A refused call leaves every buffer as it was.
 fn refuses_encoding(
     rt: &impl Abort,
@@ -117,14 +125,10 @@ fn refuses_encoding(
 ) -> Result<(), Fail> {
     let field = Prime::new(order)?;
     let mut code = Code::builtin();
-    admit(header(3), &EDGES, &ENTRIES, &mut code)?;
+    admit(header(3, 4), &EDGES, &ENTRIES, &mut code)?;
     assert_eq!(rt; encode(&field, &code, symbols, scratch, word), Err(why));
-    for x in word {
-        assert_eq!(rt; *x, 9);
-    }
-    for x in scratch {
-        assert_eq!(rt; *x, 9);
-    }
+    is_untouched(rt, word);
+    is_untouched(rt, scratch);
     Ok(())
 }
 
@@ -138,14 +142,10 @@ fn refuses_extracting(
 ) -> Result<(), Fail> {
     let field = Prime::new(order)?;
     let mut code = Code::builtin();
-    admit(header(3), &EDGES, &ENTRIES, &mut code)?;
+    admit(header(3, 4), &EDGES, &ENTRIES, &mut code)?;
     assert_eq!(rt; extract(&field, &code, word, scratch, symbols), Err(why));
-    for x in symbols {
-        assert_eq!(rt; *x, 9);
-    }
-    for x in scratch {
-        assert_eq!(rt; *x, 9);
-    }
+    is_untouched(rt, symbols);
+    is_untouched(rt, scratch);
     Ok(())
 }
 
@@ -267,18 +267,7 @@ const TWICE_ENTRIES: [Entry; 6] = [
 fn dependent(rt: HostRuntime) -> Result<(), Fail> {
     let field = Prime::new(3)?;
     let mut code = Code::builtin();
-    admit(
-        Header {
-            order: 3,
-            columns: 3,
-            rows: 2,
-            ceiling: 31,
-            limit: 20,
-        },
-        &TWICE,
-        &TWICE_ENTRIES,
-        &mut code,
-    )?;
+    admit(header(3, 3), &TWICE, &TWICE_ENTRIES, &mut code)?;
     let mut scratch = [9; 6];
     let mut word = [9; 3];
     assert_eq!(rt;
