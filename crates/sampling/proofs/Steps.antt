@@ -1,6 +1,7 @@
 -- The eleven powers of two, as floats and as fractions.
-use Rattle.std.proofs.Common.{◌≡◌, ℕ, zero, suc, ◌+◌, ◌-◌, ◌*◌, ◌^◌, ◌<◌, ◌≤◌, Bool, true, false, ◌&&◌, ◌||◌, eqb, pos, negsuc, sym, refl, ap, ◌∙◌, inl, inr, true≢false, one-mul, arith}
-use lib.Ieee.{Float, nan, inf, fin, binary32, up, down, of_bits, mul, eq}
+use Rattle.std.proofs.Common.{List, [], ◌∷◌, ap₂, ◌≡◌, ℕ, zero, suc, ◌+◌, ◌*◌, ◌^◌, ◌<◌, ◌≤◌, Bool, true, false, ◌&&◌, ◌||◌, eqb, pos, negsuc, sym, refl, ap, ◌∙◌, inl, inr, true≢false, one-mul, arith}
+use lib.Ieee.{Float, nan, inf, fin, up, down, eq}
+use Rattle.std.specs.List.{list_any}
 use lib.Ieee.Fits.{down_pos}
 use Rattle.std.proofs.lemmas.Bool.{and_parts, and_from, eqb-true, eq-eqb, ne_eqb, or_cases, or_left, or_right, cases_order}
 use Rattle.sampling.specs.Exact.{size, sized}
@@ -10,26 +11,6 @@ use Rattle.sampling.specs.Receiver.{is_power, among, is_step, Power, StepLaw}
 abbrev pub power : ℕ → Float
 power zero = fin false 1 (pos 0)
 power (suc j) = fin false 1 (negsuc j)
-
-pub one_is : of_bits binary32 1065353216 ≡ power 0
-unfolding of_bits
-one_is = refl
-
--- half of a power is the next
-pub halved : (j : ℕ) → j < 11 → mul binary32 (power j) (of_bits binary32 1056964608) ≡ power (suc j)
-unfolding mul of_bits
-halved zero h = refl
-halved (suc zero) h = refl
-halved (suc (suc zero)) h = refl
-halved (suc (suc (suc zero))) h = refl
-halved (suc (suc (suc (suc zero)))) h = refl
-halved (suc (suc (suc (suc (suc zero))))) h = refl
-halved (suc (suc (suc (suc (suc (suc zero)))))) h = refl
-halved (suc (suc (suc (suc (suc (suc (suc zero))))))) h = refl
-halved (suc (suc (suc (suc (suc (suc (suc (suc zero)))))))) h = refl
-halved (suc (suc (suc (suc (suc (suc (suc (suc (suc zero))))))))) h = refl
-halved (suc (suc (suc (suc (suc (suc (suc (suc (suc (suc zero)))))))))) h = refl
-halved (suc (suc (suc (suc (suc (suc (suc (suc (suc (suc (suc j))))))))))) h = absurd (omega arith)
 
 -- the test on floats is the test on fractions
 negative_off : (a b : ℕ) → 0 < b → (eqb a b && eqb a 0) ≡ false
@@ -63,16 +44,17 @@ pub step_is : (x : Float) → is_step x ≡ among 11 0 x
 unfolding is_step
 step_is x = refl
 
-pub among_more : (j : ℕ) (x : Float) → j < 11 → is_power j x ≡ false → among (11 - j) j x ≡ among (11 - (j + 1)) (j + 1) x
-among_more j x h e =
-    let a : 11 - j ≡ suc (11 - (j + 1)) = omega arith in
-    let b : suc j ≡ j + 1 = omega arith in
-    ap (λ n. among n j x) a ∙ ap (λ t. t || among (11 - (j + 1)) (suc j) x) e ∙ ap (λ i. among (11 - (j + 1)) i x) b
+abbrev pub powers : ℕ → ℕ → List Float
+powers zero j = []
+powers (suc n) j = power j ∷ powers n (suc j)
 
-pub among_here : (j : ℕ) (x : Float) → j < 11 → is_power j x ≡ true → among (11 - j) j x ≡ true
-among_here j x h e =
-    let a : 11 - j ≡ suc (11 - (j + 1)) = omega arith in
-    ap (λ n. among n j x) a ∙ ap (λ t. t || among (11 - (j + 1)) (suc j) x) e
+any_power : (n j : ℕ) (x : Float) → list_any (λ y. eq x y) (powers n j) ≡ among n j x
+any_power zero j x = refl
+any_power (suc n) j x = ap₂ ◌||◌ (eq_power j x) (any_power n (suc j) x)
+
+-- the test by a list of the eleven floats
+pub in_steps : (xs : List Float) (x : Float) → xs ≡ powers 11 0 → list_any (λ y. eq x y) xs ≡ is_step x
+in_steps xs x e = ap (list_any (λ y. eq x y)) e ∙ any_power 11 0 x ∙ sym (step_is x)
 
 -- the law: a step is one of the powers, and each power is a step
 to_power : (j : ℕ) (x : Float) → is_power j x ≡ true → Power j x

@@ -1,13 +1,12 @@
-ghost use Rattle.std.specs.Prelude.{◌≡◌, ℕ, ◌+◌, ◌*◌, ◌^◌, ◌<◌, ◌≤◌, true, false, length, is_ok, if◌then◌else◌, slice_index};
-ghost use Rattle.sampling.specs.Receiver.{settled};
+ghost use Rattle.std.specs.Prelude.{◌≡◌, ℕ, ◌+◌, ◌*◌, ◌^◌, ◌<◌, ◌≤◌, false, length, is_ok, if◌then◌else◌, slice_index};
 ghost use Rattle.sampling.specs.Costs.{costs_of};
 ghost use Rattle.sampling.specs.Laws.{SamplingLaw};
 ghost use Rattle.sampling.specs.Refusals.{any_not, outcome};
 
-use crate::receiver::{Settings, are_settled};
+use crate::receiver::{Receiver, Settings};
 use crate::refusal::{SampleRefusal, any_not, are_matched};
 use crate::samples::Sample;
-use crate::shares::{Shares, shares_of};
+use crate::shares::Shares;
 
 // Doubles the codes that have costs, by one bit more: those with bit 1 there stand above those with bit 0.
 fn spread(costs: &mut [u16], half: usize, shares: Shares)
@@ -22,16 +21,16 @@ fn spread(costs: &mut [u16], half: usize, shares: Shares)
     }
 }
 
-// The costs by all samples: those by the first ones stand in front, and each sample spreads them over its bit.
-fn form(settings: Settings, ceiling: u16, samples: &[Sample], costs: &mut [u16])
-    requires { (settled settings ≡ true) × ((ceiling ≤ 1023) × ((length samples.now ≤ 6) × ((length costs.old ≡ 2 ^ length samples.now) × (any_not samples.now ≡ false)))) }
-    ensures { costs.new ≡ costs_of settings ceiling samples.now }
-{
-    costs[0] = 0;
-    let mut half = 1;
-    for sample in samples {
-        spread(costs, half, shares_of(settings, ceiling, *sample));
-        half *= 2;
+impl Receiver {
+    // The costs by all samples: those by the first ones stand in front, and each sample spreads them over its bit.
+    fn form(self, samples: &[Sample], costs: &mut [u16])
+        requires { (length samples.now ≤ 6) × ((length costs.old ≡ 2 ^ length samples.now) × (any_not samples.now ≡ false)) }
+        ensures { costs.new ≡ costs_of self.settings self.ceiling samples.now }
+    {
+        costs[0] = 0;
+        for (i, sample) in samples.iter().enumerate() {
+            spread(costs, 1 << i, self.shares_of(*sample));
+        }
     }
 }
 
@@ -47,18 +46,13 @@ pub fn channel_costs(
     ensures written { costs.new ≡ (if is_ok (outcome settings ceiling samples.now (length costs.old)) then costs_of settings ceiling samples.now else costs.old) }
     ensures law { SamplingLaw }
 {
-    if !are_settled(settings) {
-        return Err(SampleRefusal::Receiver);
-    }
-    if ceiling < 1 || ceiling > 1023 {
-        return Err(SampleRefusal::Ceiling);
-    }
+    let receiver = Receiver::new(settings, ceiling)?;
     if !are_matched(samples.len(), costs.len()) {
         return Err(SampleRefusal::Length);
     }
     if any_not(samples) {
         return Err(SampleRefusal::NotNumber);
     }
-    form(settings, ceiling, samples, costs);
+    receiver.form(samples, costs);
     Ok(())
 }

@@ -1,9 +1,9 @@
 ghost use Rattle.std.specs.Prelude.{◌≡◌, ◌<◌, ◌≤◌, true, false, is_nan};
 ghost use Rattle.sampling.specs.Exact.{size, sized};
-ghost use Rattle.sampling.specs.Receiver.{is_step, settled};
+ghost use Rattle.sampling.specs.Receiver.{is_step};
 ghost use Rattle.sampling.specs.Levels.{magnitude, reaches, level_at, measured_level};
 
-use crate::receiver::Settings;
+use crate::receiver::Receiver;
 
 // The rule: whether m reaches level k. The product is exact, since the step is a power of two.
 fn reaches(k: u16, step: f32, m: f32) -> bool
@@ -14,6 +14,7 @@ fn reaches(k: u16, step: f32, m: f32) -> bool
 }
 
 // The largest level up to the ceiling that m reaches, by halving what lies between a level reached and one missed.
+// Stays (plain): the levels stand in no list, so `partition_point` would need one made first.
 fn level(step: f32, m: f32, ceiling: u16) -> u16
     requires { (ceiling ≤ 1023) × ((is_step step ≡ true) × (sized m ≡ true)) }
     ensures { result ≡ level_at (size step) (size m) ceiling }
@@ -41,9 +42,16 @@ fn scaled(x: f32, scale: f32) -> f32
     if magnitude <= scale { magnitude } else { scale }
 }
 
-pub(crate) fn measured_level(settings: Settings, ceiling: u16, x: f32) -> u16
-    requires { (settled settings ≡ true) × ((ceiling ≤ 1023) × (is_nan x ≡ false)) }
-    ensures { result ≡ measured_level settings ceiling x }
-{
-    level(settings.step, scaled(x, settings.scale), ceiling)
+impl Receiver {
+    // The level of a measured sample.
+    pub(crate) fn measured_level(self, x: f32) -> u16
+        requires { is_nan x ≡ false }
+        ensures { result ≡ measured_level self.settings self.ceiling x }
+    {
+        level(
+            self.settings.step,
+            scaled(x, self.settings.scale),
+            self.ceiling,
+        )
+    }
 }

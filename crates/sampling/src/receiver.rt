@@ -1,6 +1,10 @@
-ghost use Rattle.std.specs.Prelude.{◌≡◌};
+ghost use Rattle.std.specs.Prelude.{◌≡◌, ℕ, ◌≤◌, true, List, Err, MatchResult};
 ghost use Rattle.sampling.specs.Laws.{SamplingLaw};
 ghost use Rattle.sampling.specs.Receiver.{is_step, settled};
+ghost use Rattle.sampling.specs.Refusals.{is_ceiling, outcome};
+ghost use Rattle.sampling.specs.declared.samples.Sample.{Sample};
+
+use crate::refusal::SampleRefusal;
 
 /// The receiver's settings: the step between two levels, and the full scale above which a magnitude says no more.
 #[derive(Clone, Copy)]
@@ -9,23 +13,54 @@ pub struct Settings {
     pub scale: f32,
 }
 
-// Whether the step is one of 2^-10 to 2^0.
+// Settings that hold, and a ceiling in range.
+#[derive(Clone, Copy)]
+pub(crate) struct Receiver {
+    pub(crate) settings: Settings,
+    pub(crate) ceiling: u16,
+    ghost holds: { settled settings ≡ true },
+    ghost high: { ceiling ≤ 1023 },
+}
+
+impl Receiver {
+    // Tests the settings, and then the ceiling. A call makes these tests first, so they hand on the laws of sampling.
+    pub(crate) fn new(settings: Settings, ceiling: u16) -> Result<Receiver, SampleRefusal>
+        ensures answer { MatchResult result (λ r. (r.settings ≡ settings) × (r.ceiling ≡ ceiling) × (settled settings ≡ true) × (is_ceiling ceiling ≡ true)) (λ e. (xs : List Sample) (n : ℕ) → outcome settings ceiling xs n ≡ Err e) }
+        ensures law { SamplingLaw }
+    {
+        if !are_settled(settings) {
+            return Err(SampleRefusal::Receiver);
+        }
+        if ceiling < 1 || ceiling > 1023 {
+            return Err(SampleRefusal::Ceiling);
+        }
+        Ok(Receiver { settings, ceiling })
+    }
+}
+
+// The steps: 2^0 down to 2^-10.
+const STEPS: [f32; 11] = [
+    1.0,
+    0.5,
+    0.25,
+    0.125,
+    0.0625,
+    0.03125,
+    0.015625,
+    0.0078125,
+    0.00390625,
+    0.001953125,
+    0.0009765625,
+];
+
 fn is_step(step: f32) -> bool
     ensures { result ≡ is_step step }
 {
-    let mut power: f32 = 1.0;
-    for _ in 0..11u8 {
-        if step == power {
-            return true;
-        }
-        power *= 0.5;
-    }
-    false
+    STEPS.iter().any(|power| step == *power)
 }
 
 // Whether the step is a power of two in range, and the full scale finite and at least the step.
-// A call makes this test first, so it hands on the laws of sampling.
-pub(crate) fn are_settled(settings: Settings) -> bool
+fn are_settled(settings: Settings) -> bool
     ensures answer { result ≡ settled settings }
     ensures law { SamplingLaw }
 {

@@ -49,10 +49,5 @@ fn is_not_number(sample: Sample) -> bool
 pub(crate) fn any_not(samples: &[Sample]) -> bool
     ensures { result ≡ any_not samples.now }
 {
-    for sample in samples {
-        if is_not_number(*sample) {
-            return true;
-        }
-    }
-    false
+    samples.iter().any(|sample| is_not_number(*sample))
 }

@@ -1,11 +1,9 @@
-ghost use Rattle.std.specs.Prelude.{◌≡◌, ◌≤◌, true, false, if◌then◌else◌};
+ghost use Rattle.std.specs.Prelude.{◌≡◌, true, false, if◌then◌else◌};
 ghost use Rattle.sampling.specs.Exact.{negative};
-ghost use Rattle.sampling.specs.Receiver.{settled};
 ghost use Rattle.sampling.specs.Costs.{share_of};
 ghost use Rattle.sampling.specs.Refusals.{not_number};
 
-use crate::level::measured_level;
-use crate::receiver::Settings;
+use crate::receiver::Receiver;
 use crate::samples::Sample;
 
 // What a sample adds to the codes with bit 0 at its place, and to those with bit 1.
@@ -39,13 +37,15 @@ fn is_negative(x: f32) -> bool
     x < 0.0
 }
 
-pub(crate) fn shares_of(settings: Settings, ceiling: u16, sample: Sample) -> Shares
-    requires { (settled settings ≡ true) × ((ceiling ≤ 1023) × (not_number sample ≡ false)) }
-    ensures { (result.low ≡ share_of settings ceiling false sample) × (result.high ≡ share_of settings ceiling true sample) }
-{
-    match sample {
-        Sample::Lost => towards(false, 0),
-        Sample::Known(bit) => towards(bit, ceiling),
-        Sample::Measured(x) => towards(is_negative(x), measured_level(settings, ceiling, x)),
+impl Receiver {
+    pub(crate) fn shares_of(self, sample: Sample) -> Shares
+        requires { not_number sample ≡ false }
+        ensures { (result.low ≡ share_of self.settings self.ceiling false sample) × (result.high ≡ share_of self.settings self.ceiling true sample) }
+    {
+        match sample {
+            Sample::Lost => towards(false, 0),
+            Sample::Known(bit) => towards(bit, self.ceiling),
+            Sample::Measured(x) => towards(is_negative(x), self.measured_level(x)),
+        }
     }
 }

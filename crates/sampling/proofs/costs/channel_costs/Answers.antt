@@ -1,4 +1,4 @@
-use Rattle.std.proofs.Common.{◌^◌, ◌&&◌, eqb, leb, length, sym, arith}
+use Rattle.std.proofs.Common.{◌^◌, ◌&&◌, eqb, leb, length, sym}
 use Rattle.std.proofs.lemmas.Bool.{and_parts, leb-true, eqb-true}
 use Rattle.sampling.proofs.costs.channel_costs.Goals as goal
 
@@ -8,4 +8,4 @@ form-requires c =
     let n = length c.args.costs.now in
     let some = and_parts (leb 1 p) (leb p 6 && eqb n (2 ^ p)) (sym c.if-not-are_matched.ensures) in
     let few = and_parts (leb p 6) (eqb n (2 ^ p)) some.1 in
-    (sym c.if-not-are_settled.ensures.answer, (omega arith, (leb-true p 6 few.0, (eqb-true n (2 ^ p) few.1, sym c.if-any_not.ensures))))
+    (leb-true p 6 few.0, (eqb-true n (2 ^ p) few.1, sym c.if-any_not.ensures))
