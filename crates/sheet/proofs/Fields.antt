@@ -2,10 +2,7 @@
 use Rattle.std.proofs.Common.{◌≡◌, ℕ, zero, suc, ◌+◌, ◌<◌, ◌≤◌, List, [], ◌∷◌, length, get_or, drop, sym, refl, ap, ◌∙◌, ⊎_elim, arith}
 use Rattle.std.proofs.lemmas.List.{get_or-drop, drop-drop, length-drop}
 use Rattle.std.proofs.lemmas.Bool.{cases_lt}
-use Rattle.sheet.specs.declared.fault.Place.{Place}
 use Rattle.sheet.specs.Pieces.{split, first, start}
-use Rattle.sheet.specs.Words.{word_of, Cell}
-use Rattle.sheet.specs.Lines.{cell, cell_at}
 use Rattle.sheet.proofs.Splits.{split_some, split_rest, split_last}
 
 -- field i of the line starts at byte at
@@ -28,14 +25,7 @@ get_d_add_zero ps i = let e : i + 0 ≡ i = omega arith in get_or-drop i ps 0 []
 pub first_there : (l : List ℕ) (i at : ℕ) → Stands l i at → first 9 (drop at l) ≡ get_or (split 9 l) i []
 first_there l i at s = ap (λ ps. get_or ps 0 []) s.rest ∙ get_d_add_zero (split 9 l) i
 
--- a field at its byte
-pub cell_there : (p : Place) (l : List ℕ) (i at : ℕ) (w : Cell) → Stands l i at → w ≡ cell_at p l at → w ≡ cell p (split 9 l) i
-cell_there p l i at w s e =
-    let f = first_there l i at s in
-    let b = s.begin in
-    e ∙ (λ j. record { word = word_of (f j); line = p.line; byte = p.byte + b j })
-
-pub more_there : (l : List ℕ) (i at : ℕ) → Stands l i at → i + 1 < length (split 9 l) → at + length (first 9 (drop at l)) < length l
+more_there : (l : List ℕ) (i at : ℕ) → Stands l i at → i + 1 < length (split 9 l) → at + length (first 9 (drop at l)) < length l
 more_there l i at s h =
     ⊎_elim (λ k. omega (arith, k, length-drop at l))
     (λ k. absurd (omega (arith, ap length (split_some 9 (drop at l)), ap length (split_last 9 (drop at l) k), ap length s.rest, length-drop i (split 9 l))))

@@ -1,10 +1,9 @@
 -- A text cut into pieces: its first piece, and what is left behind it.
 use Rattle.std.proofs.Common.{◌≡◌, ℕ, suc, ◌+◌, ◌-◌, ◌<◌, ◌≤◌, Bool, true, false, cond, eqb, ltb, List, [], ◌∷◌, length, get_or, take, drop, count_by, Some, None, Option, sym, refl, ap, ◌∙◌, arith}
-use Rattle.std.proofs.lemmas.List.{at_drop_more, at_drop_all}
 use Rattle.std.proofs.lemmas.List.Recursion.{is_position_or_len, is_count_by}
 use Rattle.std.specs.List.{position_or_len}
 use Rattle.std.specs.Option.{unwrap_or}
-use Rattle.std.proofs.lemmas.Bool.{eq-eqb, ne_eqb, ltb-false}
+use Rattle.std.proofs.lemmas.Bool.{ltb-false}
 use Rattle.sheet.specs.Pieces.{cut, split, first}
 
 -- one byte before the pieces
@@ -101,17 +100,3 @@ cuts c = is_count_by (λ bs. length (split c bs) - 1) (λ b. eqb b c) refl (λ b
 
 pub split_count : (c : ℕ) (bs : List ℕ) → length (split c bs) ≡ count_by (λ b. eqb b c) bs + 1
 split_count c bs = omega (arith, cuts c bs, ap length (split_some c bs))
-
--- one turn of a loop that looks for the cut, or counts the pieces
-pub split_stop : (c : ℕ) (bs : List ℕ) (i : ℕ) → i < length bs → get_or bs i 0 ≡ c → split c (drop i bs) ≡ [] ∷ split c (drop (i + 1) bs)
-unfolding split
-split_stop c bs i h e = at_drop_more (split c) bs i 0 h ∙ ap (λ t. cut t (get_or bs i 0) (split c (drop (i + 1) bs))) (eq-eqb _ c e)
-
-pub split_other : (c : ℕ) (bs : List ℕ) (i : ℕ) → i < length bs → (get_or bs i 0 ≡ c → ⊥) → split c (drop i bs) ≡ (get_or bs i 0 ∷ first c (drop (i + 1) bs)) ∷ drop 1 (split c (drop (i + 1) bs))
-unfolding split
-split_other c bs i h e =
-    at_drop_more (split c) bs i 0 h ∙ ap (λ t. cut t (get_or bs i 0) (split c (drop (i + 1) bs))) (ne_eqb _ c e) ∙ ap (cut false (get_or bs i 0)) (split_some c (drop (i + 1) bs))
-
-pub split_end : (c : ℕ) (bs : List ℕ) (i : ℕ) → length bs ≤ i → split c (drop i bs) ≡ [] ∷ []
-unfolding split
-split_end c bs i h = at_drop_all (split c) bs i h

@@ -45,9 +45,6 @@ due_err d p n (Some j) q f e g = absurd (let z : ◌≡◌ {A = ℕ} 0 1 = cc in
 pub due_ok : (d : Due) (p : Place) (k : Kind) (n : ℕ) (o : Option Kind) → Some k ≡ o → is_due d k ≡ true → n ≡ arity k → Ok k ≡ or_not_due o d p n
 due_ok d p k n o e h g = sym (cond-true (is_due d k && eqb n (arity k)) (Ok k) (Err (NotDue p)) (and_from _ _ h (eq-eqb _ _ g))) ∙ ap (λ v. or_not_due v d p n) e
 
-pub due_none : (d : Due) (p : Place) (n : ℕ) (o : Option Kind) → None ≡ o → Err (NotDue p) ≡ or_not_due o d p n
-due_none d p n o e = ap (λ v. or_not_due v d p n) e
-
 pub due_not : (d : Due) (p : Place) (k : Kind) (n : ℕ) (o : Option Kind) → Some k ≡ o → is_due d k ≡ false → Err (NotDue p) ≡ or_not_due o d p n
 due_not d p k n o e h = sym (cond-false (is_due d k && eqb n (arity k)) (Ok k) (Err (NotDue p)) (and_left _ _ h)) ∙ ap (λ v. or_not_due v d p n) e
 

@@ -9,6 +9,7 @@ use crate::pieces::{pieces, until};
 use crate::token::{Kind, Part, Token};
 
 // A field by its kind; what is neither a letter nor a dash is held to be a number.
+#[tactic(auto, unfolding(crate::specs::Words::word_of))]
 fn token<'a>(bytes: &'a [u8]) -> Token<'a>
     ensures { word result ≡ word_of bytes.now }
 {
@@ -108,6 +109,7 @@ impl Part<'_> {
     }
 
     // 12 unless the field's number n is at least low and below limit.
+    #[tactic(auto, unfolding(crate::specs::Lines::ranged))]
     pub fn ranged(&self, low: u16, limit: u16, n: u16) -> Result<(), SheetFault>
         ensures { result ≡ ranged (seen self.now) low limit n }
     {

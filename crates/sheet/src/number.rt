@@ -31,6 +31,7 @@ fn is_written(bytes: &[u8]) -> bool
 }
 
 // The number that a field writes, if it is one as numbers are written.
+#[tactic(auto, unfolding(crate::specs::Words::decimal_of))]
 pub fn decimal(bytes: &[u8]) -> Option<u16>
     ensures { result ≡ decimal_of bytes.now }
 {
