@@ -1,8 +1,8 @@
 ghost use Rattle.std.specs.Prelude.{◌≡◌, ◌^◌, length};
+ghost use Rattle.std.specs.Option.{unwrap_or};
 ghost use Rattle.linked.specs.Frames.{header_in, decodes};
 
-use crate::batch::batch;
-use crate::decode::Decoded;
+use crate::decode::{Decoded, Decoder};
 use binary::Binary;
 use code::code::Code;
 use code::code::admit::admit;
@@ -23,20 +23,59 @@ pub struct Shape {
     pub selective: bool,
 }
 
-// The numbers of a code over a field of this order.
-fn header_of(shape: &Shape, order: u8) -> Header
-    ensures { order ≡ 2 ^ shape.now.degree → result ≡ header_in shape.now }
-{
-    Header {
-        order: u16::from(order),
-        columns: shape.columns,
-        rows: shape.rows,
-        ceiling: shape.ceiling,
-        limit: shape.limit,
+impl Shape {
+    // The numbers of a code over a field of this order.
+    fn header(&self, order: u8) -> Header
+        ensures { order ≡ 2 ^ self.now.degree → result ≡ header_in self.now }
+    {
+        Header {
+            order: u16::from(order),
+            columns: self.columns,
+            rows: self.rows,
+            ceiling: self.ceiling,
+            limit: self.limit,
+        }
     }
 }
 
 // Decodes as many frames as there are costs, words and outcomes for, and tells how many; none if the field or the code is refused.
+fn decoded_by<'a>(
+    shape: &Shape,
+    edges: &'a [Edge],
+    entries: &'a [Entry],
+    costs: &[u16],
+    area: &mut [u16],
+    distances: &mut [u16],
+    words: &mut [u8],
+    decoded: &mut [Decoded],
+) -> Option<usize>
+    ensures { unwrap_or result 0 ≡ decodes shape.now edges.now entries.now (length costs.now) (length words.old) (length decoded.old) }
+{
+    let field = &Binary::new(shape.degree, shape.polynomial).ok()?;
+    let mut code = Code::builtin();
+    admit(shape.header(field.order()), edges, entries, &mut code).ok()?;
+    let code = &code;
+    // Stays (plain): the joiners are two types, so that a frame never asks which it is; a value of either would.
+    Some(if shape.selective {
+        let joiner = &Selective;
+        Decoder {
+            field,
+            joiner,
+            code,
+        }
+        .batch(costs, area, distances, words, decoded)
+    } else {
+        let joiner = &Full;
+        Decoder {
+            field,
+            joiner,
+            code,
+        }
+        .batch(costs, area, distances, words, decoded)
+    })
+}
+
+// The same for C, with 0 for none.
 // The area is at work, and `distances` holds those of the last frame.
 #[unsafe(no_mangle)]
 pub extern "C" fn dizmulec_decode<'a>(
@@ -51,18 +90,8 @@ pub extern "C" fn dizmulec_decode<'a>(
 ) -> usize
     ensures answer { result ≡ decodes shape.now edges.now entries.now (length costs.now) (length words.old) (length decoded.old) }
 {
-    let Ok(field) = Binary::new(shape.degree, shape.polynomial) else {
-        return 0;
-    };
-    let mut code = Code::builtin();
-    if let Err(_) = admit(header_of(shape, field.order()), edges, entries, &mut code) {
-        return 0;
-    }
-    if shape.selective {
-        batch(
-            &field, &Selective, &code, costs, area, distances, words, decoded,
-        )
-    } else {
-        batch(&field, &Full, &code, costs, area, distances, words, decoded)
-    }
+    decoded_by(
+        shape, edges, entries, costs, area, distances, words, decoded,
+    )
+    .unwrap_or(0)
 }
