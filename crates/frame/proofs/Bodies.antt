@@ -219,11 +219,6 @@ module _ (F : Tables) (L : Lawful F) (K : View) (orders : F.order ≡ K.header.o
             let e = edge_sum F K (laws_of F L q orders) A costs R.to_check channel R.channel x a h in
             omega (arith, from_word x a h l, sum_word (column_of K x) a (A.column_below x h) l)
 
-        pub below_three : (x a : ℕ) → x < W → a < q → word q a3 (N + N + W + x) a ≤ word q a3 (N + column_of K x) a
-        below_three x a h l =
-            let e = edge_sum F K (laws_of F L q orders) A costs R.to_check channel R.channel x a h in
-            omega (arith, from_word x a h l, sum_word (column_of K x) a (A.column_below x h) l)
-
         module _ (pairs : PairsRule) (a4 a5 : List ℕ) (long : length a5 ≡ length a0)
             (S4 : Filled q (N + N) W (λ x. lowered q C (block q (N + column_at K.edges x) a3) (block q (N + N + W + x) a3)) a3 a4)
             (S5 : Filled q N N (λ c. lowered q 65535 (block q (N + c) a4) (replicate q 0)) a4 a5) where

@@ -61,6 +61,3 @@ module _ (t : Tables) (l r : List ℕ) where
 
     pub low_joined : (top : ℕ) → Low top l → Low top r → Low top (joined t l r)
     low_joined top hl hr = subst (Low top) joined_same (joined_low t l r L top hl hr)
-
-    pub joined_is : IsJoin t l r (joined t l r)
-    joined_is = is_join

@@ -16,9 +16,6 @@ front_is q s i l area e h = ap (λ n. take n l) (sub-zero q) ∙ h ∙ ap (λ n.
 pub front_long : (q : ℕ) → q ≤ 64 → length (take (q - 0) (replicate {A = ℕ} 64 0)) ≡ q
 front_long q h = ap (λ n. length (take n (replicate {A = ℕ} 64 0))) (sub-zero q) ∙ length-take-le q (replicate {A = ℕ} 64 0) h
 
-pub block_is : (q s i : ℕ) (l area : List ℕ) → q ≡ s → l ≡ block q i area → l ≡ block s i area
-block_is q s i l area e h = h ∙ ap (λ n. block n i area) e
-
 pub clear : (s top i j n : ℕ) (area l r : List ℕ) → l ≡ block s i area → r ≡ block s j area → n ≡ s → i < blocks s area → j < blocks s area →
     (1 ≤ top) × (top ≤ 1023) → Low top (block s i area) → Low top (block s j area) → refusal_of s top l r n ≡ None
 clear s top i j n area l r el er en hi hj h low wol =

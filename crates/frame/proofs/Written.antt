@@ -21,10 +21,6 @@ past : (a b q : ℕ) (v area : List ℕ) → b + q ≤ a → b + q ≤ length ar
 past a b q v area h k e = same_lists _ _ (search (rules, places)) (λ x d l. grind (arith, places))
 
 module _ (q j : ℕ) (v area : List ℕ) (long : length v ≡ q) (fits : j * q + q ≤ length area) where
-  pub length_put : length (put q j v area) ≡ length area
-  unfolding put
-  length_put = search (rules, places)
-
   pub block_put_same : block q j (put q j v area) ≡ v
   unfolding put block
   block_put_same = same_lists _ _ (search (rules, places)) (λ x d l. grind (arith, places))
