@@ -1,10 +1,9 @@
 -- The opening tests, passed or not, and what follows them. Assumes nothing.
-use Rattle.std.proofs.Common.{◌≡◌, ℕ, ◌*◌, ◌<◌, ◌≤◌, Bool, true, false, not, eqb, ltb, List, length, get_or, Ok, Err, refl, ap, ◌∙◌, arith, ltb-false, ltb-true, lt-ltb, eq-eqb}
+use Rattle.std.proofs.Common.{◌≡◌, ℕ, ◌*◌, Bool, true, false, not, eqb, ltb, List, length, get_or, Ok, Err, refl, ap, ◌∙◌, arith, ltb-false, ltb-true, eq-eqb}
 use Rattle.code.specs.declared.code.Code.{Code}
 use Rattle.field.proofs.Tested.{every_below_at}
 use Rattle.field.specs.Tables.{Tables}
-use Rattle.linear.proofs.Search.{every_true}
-use Rattle.linear.proofs.Tests.{eqb_not, eqb_is, no_both}
+use Rattle.linear.proofs.Tests.{eqb_is, no_both}
 use Rattle.encoder.specs.Answers.{Answer, refuse, information_length, are_codes, opening}
 use Rattle.encoder.specs.Bytes.{Below}
 use Rattle.encoder.specs.Opened.{Opened}
@@ -21,9 +20,6 @@ passed false r rest e = refl
 pub same_no : (a b : ℕ) → a ≡ b → not (eqb a b) ≡ false
 same_no a b e = ap not (eq-eqb a b e)
 
-pub other_yes : (a b : ℕ) → ¬ (a ≡ b) → not (eqb a b) ≡ true
-other_yes a b d = ap not (eqb_not a b d)
-
 not_false : (b : Bool) → not b ≡ false → b ≡ true
 not_false true e = refl
 not_false false e = absurd (no_both refl e)
@@ -31,18 +27,8 @@ not_false false e = absurd (no_both refl e)
 pub test_same : (a b : ℕ) → not (eqb a b) ≡ false → a ≡ b
 test_same a b e = eqb_is a b (not_false (eqb a b) e)
 
-pub codes_yes : (q : ℕ) (w : List ℕ) → Below q w → are_codes q w ≡ true
-codes_yes q w h = every_true (λ i. ltb (get_or w i 0) q) (length w) (λ i l. lt-ltb (get_or w i 0) q (h i l))
-
 pub codes_are : (q : ℕ) (w : List ℕ) → are_codes q w ≡ true → Below q w
 codes_are q w e i l = ltb-true (get_or w i 0) q (every_below_at (λ i. ltb (get_or w i 0) q) (length w) i e l)
-
-pub codes_no : (q : ℕ) (w : List ℕ) (i : ℕ) → i < length w → q ≤ get_or w i 0 → are_codes q w ≡ false
-codes_no q w i l h = go (are_codes q w) refl
-  where
-    go : (b : Bool) → are_codes q w ≡ b → b ≡ false
-    go true e = absurd (let k = codes_are q w e i l in let z : ⊥ = omega arith in z)
-    go false e = refl
 
 -- five tests passed, or one not, with anything after them
 module _ (r₁ r₂ r₃ r₄ r₅ : CoderRefusal) where

@@ -10,9 +10,6 @@ use Rattle.linear.proofs.Tests.{last}
 pub room_at : (s : List ℕ) (m n r j : ℕ) → m * n ≤ length s → r < m → j < n → r * n + j < length s
 room_at s m n r j h a b = let d : r * n + j < m * n = digits_lt a b in omega arith
 
-pub row_first : (s : List ℕ) (m n r : ℕ) → m * n ≤ length s → r < m → 0 < n → r * n < length s
-row_first s m n r h a b = let d : r * n + 0 < m * n = digits_lt a b in omega arith
-
 -- two places of one number are one
 pub same_place : (n x j r k : ℕ) → j < n → k < n → x * n + j ≡ r * n + k → (x ≡ r) × (j ≡ k)
 same_place n x j r k a b e = (sym (digits_div x a) ∙ ap (λ (y : ℕ). y / n) e ∙ digits_div r b, sym (digits_mod x a) ∙ ap (λ (y : ℕ). y % n) e ∙ digits_mod r b)
