@@ -5,3 +5,4 @@ pub mod Turns
 pub mod Pigeon
 pub mod Selecting
 pub mod Greatest
+pub mod Rows

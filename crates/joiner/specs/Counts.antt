@@ -234,7 +234,7 @@ tallied_one blank counts costs z e k h = omega (arith, z k h, e k h)
 pub number_le : (costs : List ℕ) (n k : ℕ) → number costs n k ≤ n
 number_le costs n k = count_le n (λ a. nat_eq (slice_index costs a) k)
 
-pub scanned : (q ceiling level : ℕ) (left right counts : List ℕ) → ((k : ℕ) → k < ceiling → slice_index counts k ≡ number left q k + number right q k) → level ≡ first_from (passes counts (q + 1)) 0 (ceiling - 1) → level ≡ level_of q ceiling left right
+pub scanned : (q ceiling level : ℕ) (left right counts : List ℕ) → ((k : ℕ) → k < ceiling - 1 → slice_index counts k ≡ number left q k + number right q k) → level ≡ first_from (passes counts (q + 1)) 0 (ceiling - 1) → level ≡ level_of q ceiling left right
 unfolding level_of
 scanned q ceiling level l r counts h e =
     e ∙ first_same (passes counts (q + 1)) (λ k. leb (q + 1) (chosen q l k + chosen q r k)) (ceiling - 1) 0 (λ k lo hi. ap (leb (q + 1)) (up_to_chosen q l r counts k (λ x m. h x (omega arith))))

@@ -1,7 +1,9 @@
-ghost use Rattle.std.specs.Prelude.{◌≡◌, ℕ, ◌+◌, ◌-◌, ◌<◌, ◌≤◌, length, slice_index};
-ghost use Rattle.joiner.specs.Costs.{Low};
+ghost use Rattle.std.specs.Prelude.{◌≡◌, ℕ, ◌+◌, ◌<◌, ◌≤◌, length, slice_index};
 ghost use Rattle.joiner.specs.Level.{first_from, level_of, IsLevel, Suffices};
 ghost use Rattle.joiner.specs.Loops.{number, passes};
+
+use crate::operands::Operands;
+use field::Field;
 
 // Adds to `counts` how often each cost stands in `costs`.
 fn tally(costs: &[u16], counts: &mut [u8])
@@ -30,48 +32,44 @@ fn pigeonhole(q: u8)
     ensures { Suffices q (q + 1) }
 {}
 
-// The first level up to which `n` or more entries are counted, else the ceiling less 1.
-fn scan(counts: &[u8], n: u16, ceiling: u16) -> u16
-    requires room { (1 ≤ ceiling) × ((ceiling < length counts.now) × ((1 ≤ n) × (n ≤ 256))) }
-    ensures { result ≡ first_from (passes counts.now n) 0 (ceiling - 1) }
+// The first level up to which `n` or more entries are counted, else the last, which is as long as the counts.
+fn scan(counts: &[u8], n: u16) -> u16
+    requires room { (length counts.now ≤ 1023) × ((1 ≤ n) × (n ≤ 256)) }
+    ensures { result ≡ first_from (passes counts.now n) 0 (length counts.now) }
 {
     let mut sum = 0u16;
-    for k in 0..ceiling - 1 {
-        sum += counts[k as usize] as u16;
+    for (level, count) in counts.iter().enumerate() {
+        sum += *count as u16;
         if sum >= n {
-            return k;
+            return level as u16;
         }
     }
-    ceiling - 1
+    counts.len() as u16
 }
 
 // The level of two vectors, counted in `counts`.
-fn level_in(counts: &mut [u8], ceiling: u16, left: &[u16], right: &[u16]) -> u16
-    requires room { (1 ≤ ceiling) × (ceiling < length counts.old) }
+fn level_in<F: Field>(counts: &mut [u8], operands: &Operands<F>) -> u16
+    requires room { operands.now.ceiling < length counts.old }
     requires blank { (k : ℕ) → k < length counts.old → slice_index counts.old k ≡ 0 }
-    requires long { (length right.now ≡ length left.now) × (length left.now ≤ 64) }
-    requires low { (Low ceiling left.now) × (Low ceiling right.now) }
-    ensures { result ≡ level_of (length left.now) ceiling left.now right.now }
+    ensures { result ≡ level_of (F.Field.meaning operands.now.field.now).order operands.now.ceiling operands.now.left.now operands.now.right.now }
 {
-    tally(left, counts);
-    tally(right, counts);
-    scan(counts, enough(left.len() as u8), ceiling)
+    tally(operands.left, counts);
+    tally(operands.right, counts);
+    let last = operands.ceiling as usize - 1;
+    scan(&counts[0..last], enough(operands.field.order()))
 }
 
 // The smallest level at which enough entries of both are chosen, else the ceiling less 1.
 // A low ceiling has fewer counters to clear.
-pub(crate) fn level_of(ceiling: u16, left: &[u16], right: &[u16]) -> u16
-    requires ceiling { (1 ≤ ceiling) × (ceiling ≤ 1023) }
-    requires long { (length right.now ≡ length left.now) × (length left.now ≤ 64) }
-    requires low { (Low ceiling left.now) × (Low ceiling right.now) }
-    ensures answer { result ≡ level_of (length left.now) ceiling left.now right.now }
-    ensures law { IsLevel (length left.now) ceiling left.now right.now result }
+pub(crate) fn level_of<F: Field>(operands: &Operands<F>) -> u16
+    ensures answer { result ≡ level_of (F.Field.meaning operands.now.field.now).order operands.now.ceiling operands.now.left.now operands.now.right.now }
+    ensures law { IsLevel (F.Field.meaning operands.now.field.now).order operands.now.ceiling operands.now.left.now operands.now.right.now result }
 {
-    if ceiling < 64 {
+    if operands.ceiling < 64 {
         let mut counts = [0u8; 64];
-        level_in(&mut counts, ceiling, left, right)
+        level_in(&mut counts, operands)
     } else {
         let mut counts = [0u8; 1024];
-        level_in(&mut counts, ceiling, left, right)
+        level_in(&mut counts, operands)
     }
 }

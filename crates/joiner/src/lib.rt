@@ -1,14 +1,16 @@
 #![tactic(auto)]
 
-mod admitted;
-mod choose;
+mod chosen;
+mod combine;
 mod costs;
+mod entry;
 mod full;
 mod joiner;
 mod level;
-mod pair;
+mod operands;
 mod refusal;
 mod selective;
+mod whole;
 
 pub use full::Full;
 pub use joiner::Joiner;

@@ -1,30 +1,57 @@
-use Rattle.std.proofs.Common.{◌≡◌, ◌+◌, ◌-◌, length, ap, ◌∙◌, arith}
+use Rattle.std.proofs.Common.{◌≡◌, ◌+◌, ◌-◌, length, take, ap, ap₂, ◌∙◌, arith}
+use Rattle.std.proofs.lemmas.List.{get_or-take, length-take}
 use Rattle.joiner.specs.Level.{first_from}
 use Rattle.joiner.specs.Loops.{number, passes}
 use Rattle.joiner.specs.Counts.{tallied_one, number_le, scanned}
+use Rattle.joiner.proofs.Granted.{granted}
 use Rattle.joiner.proofs.level.level_in.Goals as goal
 
-pub tally-requires-2 : goal.tally-requires-2
-tally-requires-2 c =
-    let long : length c.tally.new.counts ≡ length c.args.counts.now = c.tally.auto.counts in
+pub tally-requires : goal.tally-requires
+tally-requires g c =
+    let o = c.args.operands.now in let q = (g.F.Field.meaning o.field.now).order in
+    let G = granted q o.ceiling o.left.now o.right.now q o.admitted in
     record {
-      few = omega (arith, c.requires.long.0, c.requires.long.1);
-      room = λ a. omega (arith, c.requires.low.1 a, c.requires.room.1);
-      small = λ k h. omega (arith, tallied_one c.args.counts.now c.tally.new.counts c.args.left.now c.requires.blank c.tally.ensures k (omega arith), number_le c.args.left.now (length c.args.left.now) k, c.requires.long.1);
+      few = omega (arith, G.left_long, (g.met.F.Field.lawful o.field.now).high);
+      room = λ a. omega (arith, G.left_low a, c.requires.room);
+      small = λ k h. omega (arith, c.requires.blank k h);
     }
 
-pub scan-requires : goal.scan-requires
-scan-requires c =
+pub tally-requires-2 : goal.tally-requires-2
+tally-requires-2 g c =
+    let o = c.args.operands.now in let q = (g.F.Field.meaning o.field.now).order in
+    let high = (g.met.F.Field.lawful o.field.now).high in
+    let G = granted q o.ceiling o.left.now o.right.now q o.admitted in
     let long : length c.tally.new.counts ≡ length c.args.counts.now = c.tally.auto.counts in
-    let long2 : length c.tally-2.new.counts ≡ length c.tally.new.counts = c.tally-2.auto.counts in
+    let l = o.left.now in
+    record {
+      few = omega (arith, G.right_long, high);
+      room = λ a. omega (arith, G.right_low a, c.requires.room);
+      small = λ k h. omega (arith, tallied_one c.args.counts.now c.tally.new.counts l c.requires.blank c.tally.ensures k (omega arith), number_le l (length l) k, G.left_long, high);
+    }
+
+pub overflow_sub-last : goal.overflow_sub-last
+overflow_sub-last g c =
+    let o = c.args.operands.now in let q = (g.F.Field.meaning o.field.now).order in
+    (granted q o.ceiling o.left.now o.right.now q o.admitted).low
+
+pub scan-requires : goal.scan-requires
+scan-requires g c =
+    let o = c.args.operands.now in let q = (g.F.Field.meaning o.field.now).order in
+    let G = granted q o.ceiling o.left.now o.right.now q o.admitted in
     let n = c.enough.ensures.answer in
-    record { room = (c.requires.room.0, (omega (arith, c.requires.room.1), (omega arith, omega (arith, c.requires.long.1)))) }
+    record { room = (omega (arith, length-take (o.ceiling - 1 - 0) c.tally-2.new.counts, G.high), (omega arith, omega (arith, c.order.ensures, (g.met.F.Field.lawful o.field.now).high))) }
 
 pub returns : goal.returns
-returns c =
-    let l = c.args.left.now in let r = c.args.right.now in
+returns g c =
+    let o = c.args.operands.now in let q = (g.F.Field.meaning o.field.now).order in
+    let l = o.left.now in let r = o.right.now in let top = o.ceiling in
+    let G = granted q top l r q o.admitted in
     let long : length c.tally.new.counts ≡ length c.args.counts.now = c.tally.auto.counts in
-    scanned (length l) c.args.ceiling c.scan.result l r c.tally-2.new.counts
-    (λ k h. c.tally-2.ensures k (omega (arith, c.requires.room.1)) ∙ ap (λ n. n + number r (length r) k) (tallied_one c.args.counts.now c.tally.new.counts l c.requires.blank c.tally.ensures k (omega (arith, c.requires.room.1)))
-    ∙ ap (λ n. number l (length l) k + number r n k) c.requires.long.0)
-    (c.scan.ensures ∙ ap (λ n. first_from (passes c.tally-2.new.counts n) 0 (c.args.ceiling - 1)) c.enough.ensures.answer)
+    let long2 : length c.tally-2.new.counts ≡ length c.tally.new.counts = c.tally-2.auto.counts in
+    let front = take (top - 1 - 0) c.tally-2.new.counts in
+    let end : length front ≡ top - 1 = omega (arith, length-take (top - 1 - 0) c.tally-2.new.counts, c.requires.room) in
+    scanned q top c.scan.result l r front
+    (λ k h. get_or-take (top - 1 - 0) c.tally-2.new.counts k 0 (omega arith) ∙ c.tally-2.ensures k (omega (arith, c.requires.room))
+    ∙ ap (λ n. n + number r (length r) k) (tallied_one c.args.counts.now c.tally.new.counts l c.requires.blank c.tally.ensures k (omega (arith, c.requires.room)))
+    ∙ ap₂ (λ n m. number l n k + number r m k) G.left_long G.right_long)
+    (c.scan.ensures ∙ ap₂ (λ n m. first_from (passes front n) 0 m) (c.enough.ensures.answer ∙ ap (λ n. n + 1) c.order.ensures) end)

@@ -1,10 +1,10 @@
-use Rattle.std.proofs.Common.{◌≡◌, ◌-◌, ◌<◌}
+use Rattle.std.proofs.Common.{◌≡◌, ◌-◌, ◌<◌, length}
 use Rattle.joiner.specs.Level.{first_from}
 use Rattle.joiner.specs.Loops.{up_to, passes}
 use Rattle.joiner.proofs.level.scan.Given as goal
 
-abbrev pub invariant-loop-k : goal.invariant-loop-k
-invariant-loop-k l =
-    (l.sum ≡ up_to l.counts l.k)
+abbrev pub invariant-loop-level : goal.invariant-loop-level
+invariant-loop-level l =
+    (l.sum ≡ up_to l.counts l.level)
     × (l.sum < l.n)
-    × (first_from (passes l.counts l.n) 0 (l.ceiling - 1) ≡ first_from (passes l.counts l.n) l.k (l.ceiling - 1 - l.k))
+    × (first_from (passes l.counts l.n) 0 (length l.counts) ≡ first_from (passes l.counts l.n) l.level (length l.counts - l.level))
