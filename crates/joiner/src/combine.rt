@@ -13,10 +13,7 @@ fn plus<F: Field>(field: &F, b: u8, c: u8) -> u8
     ensures is { result ≡ (F.Field.meaning field.now).sum b c }
     ensures code { result < (F.Field.meaning field.now).order }
 {
-    match field.sum(b, c) {
-        Some(a) => a,
-        None => unreachable(),
-    }
+    field.sum(b, c).unwrap()
 }
 
 // Lowers the entry at a code to a cost, where that is dearer.

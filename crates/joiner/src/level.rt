@@ -47,12 +47,13 @@ fn scan(counts: &[u8], n: u16) -> u16
     counts.len() as u16
 }
 
-// The level of two vectors, counted in `counts`.
-fn level_in<F: Field>(counts: &mut [u8], operands: &Operands<F>) -> u16
-    requires room { operands.now.ceiling < length counts.old }
-    requires blank { (k : ℕ) → k < length counts.old → slice_index counts.old k ≡ 0 }
+// The level of two vectors, found with N counters, one for each cost that can occur.
+fn level_with<const N: usize, F: Field>(operands: &Operands<F>) -> u16
+    requires { (operands.now.ceiling < N) × (N ≤ 1024) }
     ensures { result ≡ level_of (F.Field.meaning operands.now.field.now).order operands.now.ceiling operands.now.left.now operands.now.right.now }
 {
+    let mut blank = [0u8; N];
+    let counts = &mut blank[..];
     tally(operands.left, counts);
     tally(operands.right, counts);
     let last = operands.ceiling as usize - 1;
@@ -66,10 +67,8 @@ pub(crate) fn level_of<F: Field>(operands: &Operands<F>) -> u16
     ensures law { IsLevel (F.Field.meaning operands.now.field.now).order operands.now.ceiling operands.now.left.now operands.now.right.now result }
 {
     if operands.ceiling < 64 {
-        let mut counts = [0u8; 64];
-        level_in(&mut counts, operands)
+        level_with::<64, F>(operands)
     } else {
-        let mut counts = [0u8; 1024];
-        level_in(&mut counts, operands)
+        level_with::<1024, F>(operands)
     }
 }

@@ -59,7 +59,7 @@ fn first(range: bool, long: bool, low: bool) -> Result<(), JoinRefusal>
 fn in_range(ceiling: u16) -> bool
     ensures { result ≡ in_range ceiling }
 {
-    ceiling >= 1 && ceiling <= 1023
+    (1..=1023).contains(&ceiling)
 }
 
 // Whether three vectors are q long.
