@@ -34,6 +34,7 @@ fn combine_row<F: Field, R: Entries>(field: &F, left: Entry, rights: &R, joined:
     ensures count { result ≡ length (R.Entries.entries rights.now) }
     ensures joined { joined.new ≡ row_of (F.Field.meaning field.now) left (R.Entries.entries rights.now) joined.old }
 {
+    // Stays (rule): pairs are counted as they are combined.
     let mut pairs = 0;
     for k in 0..rights.len() {
         let right = rights.at(k);

@@ -8,6 +8,8 @@ pub(crate) struct Entry {
 }
 
 // What a join combines of a vector: some of its entries, one after another.
+// Stays (plain): they are read by their place. An iterator instead would be a struct of its own for each kind of entries, with its state
+// and the laws of iterators, where this is one method without any.
 pub(crate) trait Entries {
     ghost use Rattle.joiner.specs.declared.entry.Entry.{Entry};
 

@@ -11,6 +11,7 @@ pub enum JoinRefusal {
 
 impl JoinRefusal {
     // The number by which a report names the refusal.
+    // Stays (rule): a refusal is an enum whose number one method and one definition of the specs give.
     pub fn number(self) -> u8
         ensures answer { result ≡ number_of self }
     {

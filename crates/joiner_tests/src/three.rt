@@ -12,14 +12,10 @@ fn over_three<J: Joiner>(joiner: &J, ceiling: u16, left: &[u16], right: &[u16]) 
     ensures answer { told result.pairs ≡ answer_of (prime_tables 3) (J.Joiner.pairs joiner.now) ceiling left.now right.now 3 }
     ensures joined { result.third ≡ third_of (prime_tables 3) ceiling left.now right.now (replicate 3 0) }
 {
+    let field = Prime::new(3).unwrap();
     let mut third = [0u16; 3];
-    match Prime::new(3) {
-        Ok(field) => {
-            let pairs = joiner.join(&field, ceiling, left, right, &mut third);
-            Outcome { pairs, third }
-        }
-        Err(_) => unreachable(),
-    }
+    let pairs = joiner.join(&field, ceiling, left, right, &mut third);
+    Outcome { pairs, third }
 }
 
 // The worked examples over the prime field of order 3: (0, 5, 9) with (0, 6, 8), and (0, 8, 8) with itself.

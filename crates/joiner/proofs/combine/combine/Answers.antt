@@ -1,4 +1,4 @@
-use Rattle.std.proofs.Common.{◌∙◌, length, arith}
+use Rattle.std.proofs.Common.{length, arith}
 use Rattle.joiner.specs.Loops.{row_of}
 use Rattle.joiner.proofs.Rows.{turn, pairs_more}
 use Rattle.joiner.proofs.combine.combine.Goals as goal

@@ -1,7 +1,7 @@
-use Rattle.std.proofs.Common.{◌≡◌, ◌*◌, length, replicate, sym, refl, ap, ap₂, ◌∙◌, subst, arith}
+use Rattle.std.proofs.Common.{◌≡◌, ◌*◌, length, replicate, sym, refl, ap₂, ◌∙◌, subst, arith}
 use Rattle.std.specs.List.{range_with_len}
 use Rattle.joiner.specs.Joined.{joined_of, IsJoin}
-use Rattle.joiner.specs.Loops.{combined, entries_of}
+use Rattle.joiner.specs.Loops.{combined}
 use Rattle.joiner.proofs.Combining.{whole}
 use Rattle.joiner.proofs.Granted.{granted}
 use Rattle.joiner.proofs.Joining.{joined_is}

@@ -1,4 +1,4 @@
-use Rattle.std.proofs.Common.{arith, lit≤}
+use Rattle.std.proofs.Common.{arith}
 use Rattle.joiner.specs.Counts.{level_by}
 use Rattle.joiner.proofs.Granted.{granted}
 use Rattle.joiner.proofs.level.level_of.Goals as goal

@@ -1,4 +1,4 @@
-use Rattle.std.proofs.Common.{◌≡◌, ◌*◌, length, take, replicate, sym, refl, ap, ap₂, ◌∙◌, subst, arith}
+use Rattle.std.proofs.Common.{◌≡◌, ◌*◌, length, replicate, sym, refl, ap, ap₂, ◌∙◌, subst, arith}
 use Rattle.joiner.specs.Joined.{joined_of, IsJoin}
 use Rattle.joiner.specs.Level.{is_chosen, chosen, level_of, selective_pairs}
 use Rattle.joiner.specs.Loops.{listed, entries_of, Below, pairs_of}
@@ -45,9 +45,9 @@ returns g c =
     ∙ pairs_are t l r (listed (is_chosen l level) q) (listed (is_chosen r level) q) (replicate n top)) in
     record {
       count =
-        c.combine.ensures.count
-        ∙ ap₂ ◌*◌ (ap length c.choose.ensures ∙ chosen_long q l level G.left_long) (ap length c.choose-2.ensures ∙ chosen_long q r level G.right_long)
-        ∙ ap (λ v. chosen q l v * chosen q r v) e;
+          c.combine.ensures.count
+          ∙ ap₂ ◌*◌ (ap length c.choose.ensures ∙ chosen_long q l level G.left_long) (ap length c.choose-2.ensures ∙ chosen_long q r level G.right_long)
+          ∙ ap (λ v. chosen q l v * chosen q r v) e;
       joined = wrote;
       law = subst (IsJoin t l r) (sym wrote) (joined_is t l r laws);
     }

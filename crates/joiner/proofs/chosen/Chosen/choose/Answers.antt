@@ -17,13 +17,13 @@ loop-a-preserved c =
     elim c.if-not_above.branch [
       | goal.then-not_above w ↦ record {
         chosen = subst (λ m. Choosing costs level codes a n (set codes n a) m (a + 1)) (sym w.count-is)
-        (choose_yes costs level codes a n (omega (arith, inv.chosen.2, long.0, c.requires)) inv.chosen (sym c.not_above.ensures ∙ w.if-not_above.true));
+            (choose_yes costs level codes a n (omega (arith, inv.chosen.2, long.0, c.requires)) inv.chosen (sym c.not_above.ensures ∙ w.if-not_above.true));
         picked = subst (λ m. Picked costs (take m (set codes n a)) (set picked n (get_or costs a 0))) (sym w.count-is)
-        (picked_more costs codes picked n a (omega (arith, inv.chosen.2, long.0, c.requires)) (omega (arith, inv.chosen.2, long.1, c.requires)) inv.picked);
+            (picked_more costs codes picked n a (omega (arith, inv.chosen.2, long.0, c.requires)) (omega (arith, inv.chosen.2, long.1, c.requires)) inv.picked);
       }
       | goal.else-not_above w ↦ record {
         chosen = subst (λ m. Choosing costs level codes a n (set codes n a) m (a + 1)) (sym w.count-is)
-        (choose_no costs level codes a n inv.chosen (sym c.not_above.ensures ∙ w.if-not_above.false));
+            (choose_no costs level codes a n inv.chosen (sym c.not_above.ensures ∙ w.if-not_above.false));
         picked = subst (λ m. Picked costs (take m (set codes n a)) (set picked n (get_or costs a 0))) (sym w.count-is) (picked_same costs codes picked n a (get_or costs a 0) inv.picked);
       }
     ]
