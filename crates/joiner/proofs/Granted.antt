@@ -12,7 +12,7 @@ within_low top [] e a = omega arith
 within_low top (x ∷ xs) e zero = leb-true x top (and_parts (leb x top) (within top xs) e).0
 within_low top (x ∷ xs) e (suc a) = within_low top xs (and_parts (leb x top) (within top xs) e).1 a
 
-pub each_within : (top : ℕ) (v : List ℕ) → list_all (λ cost. leb cost top) v ≡ within top v
+pub each_within : (top : ℕ) (v : List ℕ) → within top v ≡ list_all (λ cost. leb cost top) v
 unfolding within
 each_within top [] = refl
 each_within top (x ∷ xs) = ap (λ b. leb x top && b) (each_within top xs)

@@ -1,5 +1,5 @@
 -- Entries of codes: how they combine, and that their codes are below q. Assumes nothing.
-use Rattle.std.proofs.Common.{◌≡◌, ℕ, Bool, ◌+◌, ◌*◌, ◌<◌, ◌≤◌, Some, List, [], ◌∷◌, map, length, get_or, set, take, min, All, ◌≢◌, ◌⊎◌, inl, inr, refl, sym, ap, ap₂, ◌∙◌, subst, add-mul, one-mul, arith}
+use Rattle.std.proofs.Common.{◌≡◌, ℕ, Bool, ◌+◌, ◌*◌, ◌<◌, ◌≤◌, Some, List, [], ◌∷◌, map, length, get_or, set, take, All, ◌≢◌, ◌⊎◌, inl, inr, refl, sym, ap, ap₂, ◌∙◌, subst, add-mul, one-mul, arith}
 use Rattle.std.specs.List.{range_with_len, slice_get, fold}
 use Rattle.std.proofs.lemmas.List.{get_or-map, length-map, length-take, length-take-le, get_or-take, get_or-set_same, get_or-set_other, take-set}
 use Rattle.std.proofs.lemmas.List.FromFn.{fill_by_all, length-range_with_len, length-map-range_with_len, get_or-map-range_with_len}
@@ -8,7 +8,6 @@ use Rattle.std.proofs.lemmas.List.Elements.{All-map, All-get_or}
 use Rattle.std.proofs.lemmas.Option.{slice_get_within, slice_get-get_or, get_or_from_slice_get}
 use Rattle.std.proofs.lemmas.Bool.{cases_lt}
 use Rattle.field.specs.Tables.{Tables}
-use Rattle.joiner.specs.Costs.{worse}
 use Rattle.joiner.specs.Loops.{listed, Picked, entries_in, rowed, combined, entries_of, Below, lowered_by, row_of, pairs_of}
 use Rattle.joiner.specs.declared.entry.Entry.{Entry}
 use Rattle.joiner.specs.Level.{is_chosen, chosen}
@@ -103,11 +102,6 @@ chosen_long q costs level e =
 pub turn : {X Y : Type 0} (f : Y → X → Y) (first here next : Y) (xs : List X) (k : ℕ) (x : X) → slice_get xs k ≡ Some x → here ≡ fold f first (take k xs) → next ≡ f here x → next ≡ fold f first (take (k + 1) xs)
 turn f first here next xs k x s inv e =
     e ∙ ap (λ y. f y x) inv ∙ ap (f (fold f first (take k xs))) (sym (get_or_from_slice_get xs k x x s)) ∙ sym (fold_more f first xs k x (slice_get_within xs k x s))
-
--- a sum's entry lowered to a pair's cost is the pair combined
-pub lowered_is : (t : Tables) (left right : Entry) (a cost : ℕ) (third next : List ℕ) → a ≡ t.sum left.code right.code → cost ≡ worse left.cost right.cost →
-    next ≡ set third a (min (get_or third a 0) cost) → next ≡ lowered_by t left third right
-lowered_is t left right a cost third next e k h = h ∙ ap₂ (λ b c. set third b (min (get_or third b 0) c)) e k
 
 -- one row's pairs more
 pub pairs_more : (i n pairs row : ℕ) → pairs ≡ i * n → row ≡ n → pairs + row ≡ (i + 1) * n

@@ -1,5 +1,5 @@
-ghost use Rattle.std.specs.Prelude.{◌≡◌, ◌*◌, ◌<◌, length, min, replicate, slice_index, slice_set};
-ghost use Rattle.joiner.specs.Loops.{Below, row_of, pairs_of};
+ghost use Rattle.std.specs.Prelude.{◌≡◌, ◌+◌, ◌*◌, ◌<◌, length, replicate};
+ghost use Rattle.joiner.specs.Loops.{Below, lowered_by, row_of, pairs_of};
 
 use crate::costs::worse;
 use crate::entry::{Entries, Entry};
@@ -16,17 +16,27 @@ fn plus<F: Field>(field: &F, b: u8, c: u8) -> u8
     field.sum(b, c).unwrap()
 }
 
-// Lowers the entry at a code to a cost, where that is dearer.
-fn lower(a: u8, cost: u16, joined: &mut [u16])
-    requires { a < length joined.old }
-    ensures { joined.new ≡ slice_set joined.old a (min (slice_index joined.old a) cost) }
+// Combines a pair: lowers the entry at the sum of the codes to the greater of the costs, where that is dearer, and tells one pair more.
+fn combine_pair<F: Field>(
+    field: &F,
+    left: Entry,
+    right: Entry,
+    joined: &mut [u16],
+    pairs: u32,
+) -> u32
+    requires left { left.code < (F.Field.meaning field.now).order }
+    requires right { right.code < (F.Field.meaning field.now).order }
+    requires long { length joined.old ≡ (F.Field.meaning field.now).order }
+    requires few { pairs < 64 }
+    ensures count { result ≡ pairs + 1 }
+    ensures joined { joined.new ≡ lowered_by (F.Field.meaning field.now) left joined.old right }
 {
-    let a = a as usize;
-    joined[a] = joined[a].min(cost);
+    let a = plus(field, left.code, right.code) as usize;
+    joined[a] = joined[a].min(worse(left.cost, right.cost));
+    pairs + 1
 }
 
-// Combines a left entry with the right ones: lowers the entry at the sum of their codes to the cost of the pair. Tells how many pairs
-// these are.
+// Combines a left entry with the right ones, and tells how many pairs these are.
 fn combine_row<F: Field, R: Entries>(field: &F, left: Entry, rights: &R, joined: &mut [u16]) -> u32
     requires code { left.code < (F.Field.meaning field.now).order }
     requires codes { Below (F.Field.meaning field.now).order (R.Entries.entries rights.now) }
@@ -37,13 +47,7 @@ fn combine_row<F: Field, R: Entries>(field: &F, left: Entry, rights: &R, joined:
     // Stays (rule): pairs are counted as they are combined.
     let mut pairs = 0;
     for k in 0..rights.len() {
-        let right = rights.at(k);
-        lower(
-            plus(field, left.code, right.code),
-            worse(left.cost, right.cost),
-            joined,
-        );
-        pairs += 1;
+        pairs = combine_pair(field, left, rights.at(k), joined, pairs);
     }
     pairs
 }

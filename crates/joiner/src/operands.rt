@@ -69,11 +69,19 @@ fn are_long(q: usize, left: usize, right: usize, target: usize) -> bool
     left == q && right == q && target == q
 }
 
-// Whether neither vector has a cost above the ceiling.
+// Whether a vector has no cost above the ceiling.
+#[tactic(auto, using(crate::proofs::Granted::each_within))]
+fn is_low(ceiling: u16, costs: &[u16]) -> bool
+    ensures { result ≡ within ceiling costs.now }
+{
+    within(ceiling, costs)
+}
+
+// Whether neither vector has one.
 fn are_low(ceiling: u16, left: &[u16], right: &[u16]) -> bool
     ensures { result ≡ (within ceiling left.now && within ceiling right.now) }
 {
-    within(ceiling, left) && within(ceiling, right)
+    is_low(ceiling, left) && is_low(ceiling, right)
 }
 
 // Admits a join, or tells why it is refused; `target` is how long the third vector is.
