@@ -7,6 +7,7 @@ use crate::operands::Operands;
 use field::Field;
 
 // The sum of two codes.
+// Stays (rule): other crates have the same line, since a public function may not require that its codes are below q.
 fn plus<F: Field>(field: &F, b: u8, c: u8) -> u8
     requires left { b < (F.Field.meaning field.now).order }
     requires right { c < (F.Field.meaning field.now).order }
@@ -15,6 +16,9 @@ fn plus<F: Field>(field: &F, b: u8, c: u8) -> u8
 {
     field.sum(b, c).unwrap()
 }
+
+// Stays (plain): that the lent vector is q long stands in each function that is handed it. A struct round the lent vector would ask for
+// that fact at every write, and would be taken apart wherever the vector is lent on.
 
 // Combines a pair: lowers the entry at the sum of the codes to the greater of the costs, where that is dearer, and tells one pair more.
 fn combine_pair<F: Field>(

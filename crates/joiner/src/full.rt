@@ -33,6 +33,7 @@ impl Joiner for Full {
 
     ghost bounded = { Prim.search rules };
 
+    // Stays (rule): both joiners test the operands themselves, since a public method between could not require that nothing is refused.
     fn join<F: Field>(
         &self,
         field: &F,

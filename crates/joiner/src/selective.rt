@@ -35,6 +35,7 @@ impl Joiner for Selective {
 
     ghost bounded = { unfold selective_pairs chosen in λ j q ceiling l r. mul-le _ _ q q (count_le q _) (count_le q _) };
 
+    // Stays (rule): both joiners test the operands themselves, since a public method between could not require that nothing is refused.
     fn join<F: Field>(
         &self,
         field: &F,

@@ -29,6 +29,7 @@ fn fill(costs: &mut [u16], ceiling: u16, seed: u32) -> u32
 fn agree_once<F: Field>(rt: &impl Abort, field: &F, ceiling: u16, seed: u32) -> Result<u32, Fail> {
     let q = field.order() as usize;
     assert!(rt; q <= 64 && ceiling >= 1);
+    // Stays (plain): arrays of the largest order, cut to q; vectors on the heap could run out of memory, which is no part of this test.
     let mut left = [0u16; 64];
     let mut right = [0u16; 64];
     let mut full = [0u16; 64];

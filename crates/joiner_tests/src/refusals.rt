@@ -61,6 +61,7 @@ fn refusals<J: Joiner>(rt: &impl Abort, joiner: &J) -> Result<(), Fail> {
     refused(rt, joiner, 7, &[0, 7, 7], &[0, 8, 8], 3, JoinRefusal::Cost)
 }
 
+// Stays (plain): a test for each joiner over one text, so that a failure names the joiner.
 #[test]
 fn full_refuses(rt: HostRuntime) -> Result<(), Fail> {
     refusals(&rt, &Full)
