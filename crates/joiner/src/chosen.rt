@@ -17,7 +17,7 @@ pub(crate) struct Chosen {
 }
 
 impl Chosen {
-    pub fn none() -> Chosen {
+    pub(crate) fn none() -> Chosen {
         Chosen {
             codes: [0; 64],
             costs: [0; 64],
@@ -28,7 +28,7 @@ impl Chosen {
     // Chooses them. Every entry is written, and the next one over it unless it is chosen: no branch to mispredict.
     // Stays (plain): the count is raised by hand, since nothing collects into an array.
     // Stays (speed): two arrays, filled where they lie: an array of pairs that is handed out took 7 to 29 % more instructions.
-    pub fn choose(&mut self, level: u16, costs: &[u16])
+    pub(crate) fn choose(&mut self, level: u16, costs: &[u16])
         requires { length costs.now ≤ 64 }
         ensures { entries_in self.new.codes self.new.costs self.new.count ≡ entries_of costs.now (listed (is_chosen costs.now level) (length costs.now)) }
     {

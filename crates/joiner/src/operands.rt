@@ -19,7 +19,7 @@ pub(crate) struct Operands<'a, F: Field> {
 
 impl<'a, F: Field> Operands<'a, F> {
     // Takes them, or tells why the join is refused; `target` is how long the third vector is.
-    pub fn new(
+    pub(crate) fn new(
         field: &'a F,
         ceiling: u16,
         left: &'a [u16],
