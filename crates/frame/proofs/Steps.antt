@@ -1,5 +1,5 @@
 -- What a step's copies hold, and that its join is not refused. Assumes nothing.
-use Rattle.std.proofs.Common.{◌≡◌, ℕ, ◌-◌, ◌<◌, ◌≤◌, List, length, take, replicate, None, Ok, Err, Option, sym, ap, ◌∙◌, subst, arith}
+use Rattle.std.proofs.Common.{◌≡◌, ℕ, ◌-◌, ◌<◌, ◌≤◌, List, length, take, replicate, None, Ok, Err, Result, IsOk, Option, sym, refl, ap, ◌∙◌, subst, arith}
 use Rattle.std.proofs.lemmas.List.{length-take-le}
 use native.Mathlib.Nat.{sub-zero}
 use Rattle.joiner.specs.Costs.{Low}
@@ -24,8 +24,9 @@ clear s top i j n area l r el er en hi hj h low wol =
     (ap length er ∙ length_block s j area (room s j (length area) hj))
     en (subst (Low top) (sym el) low) (subst (Low top) (sym er) wol)
 
-pub not_refused : (o : Option ℕ) (e : JoinRefusal) (m : ℕ) → o ≡ None → told (Err e) ≡ or_refusal o m → ⊥
-not_refused o e m n t = let s : told (Err e) ≡ Ok m = t ∙ ap (λ x. or_refusal x m) n in let z : ◌≡◌ {A = ℕ} 0 1 = cc in omega arith
+pub ok_told : (r : Result ℕ JoinRefusal) (o : Option ℕ) (m : ℕ) → o ≡ None → told r ≡ or_refusal o m → IsOk r
+ok_told (Ok n) o m e t = refl
+ok_told (Err f) o m e t = let s : told (Err f) ≡ Ok m = t ∙ ap (λ x. or_refusal x m) e in let z : ◌≡◌ {A = ℕ} 0 1 = cc in absurd (let w : ⊥ = omega arith in w)
 
 pub told_is : (o : Option ℕ) (n m : ℕ) → o ≡ None → told (Ok n) ≡ or_refusal o m → n ≡ m
 told_is o n m e t = let s : told (Ok n) ≡ Ok m = t ∙ ap (λ x. or_refusal x m) e in cc

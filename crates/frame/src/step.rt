@@ -48,15 +48,11 @@ impl<'a, F: Field, J: Joiner> Joins<'a, F, J> {
         let right = copied(area, q, j);
         let mut out = [0u16; 64];
         let out = &mut out[0..q];
-        match self
+        let pairs = self
             .joiner
             .join(self.field, self.ceiling, &left[0..q], &right[0..q], out)
-        {
-            Ok(pairs) => {
-                put_back(area, q, k, out);
-                pairs
-            }
-            Err(_) => unreachable(),
-        }
+            .unwrap();
+        put_back(area, q, k, out);
+        pairs
     }
 }
