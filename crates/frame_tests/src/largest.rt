@@ -1,10 +1,10 @@
-use crate::small::{loaded, number, opened, running};
+use crate::small::{concludes, not_concluded};
 use binary::Binary;
 use code::code::Code;
 use code::code::admit::admit;
 use code::table::{Edge, Entry, Header};
 use field::Field;
-use frame::{LoadingSlip, RunningSlip, conclude, round};
+use frame::{LoadingSlip, RunningSlip, load, open, round, start};
 use joiner::{Full, Joiner, Selective};
 use std::process::Abort;
 use std::test::Fail;
@@ -27,12 +27,12 @@ fn edges() -> [Edge; 1024] {
         column: 0,
         coefficient: 1,
     }; 1024];
-    for i in 0..1024 {
+    for (i, edge) in edges.iter_mut().enumerate() {
         let r = i / 8;
         let k = i % 8;
         let column = 32 * k + (r + 5 * k) % 32;
         let coefficient = 1 + (7 * r + 13 * k) % 63;
-        edges[i] = Edge {
+        *edge = Edge {
             row: r as u16,
             column: column as u16,
             coefficient: coefficient as u8,
@@ -44,11 +44,11 @@ fn edges() -> [Edge; 1024] {
 // The four rows that check each column.
 fn entries() -> [Entry; 1024] {
     let mut entries = [Entry { column: 0, row: 0 }; 1024];
-    for i in 0..1024 {
+    for (i, entry) in entries.iter_mut().enumerate() {
         let column = i / 4;
         let k = column / 32;
         let row = (column % 32 + 256 - 5 * k) % 32 + 32 * (i % 4);
-        entries[i] = Entry {
+        *entry = Entry {
             column: column as u16,
             row: row as u16,
         };
@@ -59,8 +59,8 @@ fn entries() -> [Entry; 1024] {
 // The values of a column: 0 is the cheapest symbol, but in every column that 6 divides, where noise has made another cheaper.
 fn values(column: u16) -> [u16; 64] {
     let mut values = [0u16; 64];
-    for a in 1..64u16 {
-        values[a as usize] = 100 + (37 * a + column % 64) % 200;
+    for (a, value) in values.iter_mut().enumerate().skip(1) {
+        *value = 100 + (37 * a as u16 + column % 64) % 200;
     }
     if column % 6 == 0 {
         values[0] = 80;
@@ -71,7 +71,7 @@ fn values(column: u16) -> [u16; 64] {
 
 fn loads(code: &Code, slip: &LoadingSlip, area: &mut [u16]) -> Result<(), Fail> {
     for c in 0..256u16 {
-        loaded(code, slip, area, c, &values(c))?;
+        load(code, slip, area, c, &values(c))?;
     }
     Ok(())
 }
@@ -85,51 +85,12 @@ fn rounds<F: Field, J: Joiner>(
     area: &mut [u16],
 ) -> Result<u16, Fail> {
     for _ in 0..5 {
-        match round(field, joiner, code, slip, area) {
-            Ok(told) => {
-                if told.failing == 0 {
-                    return Ok(told.rounds);
-                }
-            }
-            Err(why) => return Err(Fail::new(number(why))),
+        let told = round(field, joiner, code, slip, area)?;
+        if told.failing == 0 {
+            return Ok(told.rounds);
         }
     }
     Err(Fail::new("a row still fails"))
-}
-
-// The word is all 0, after so many rounds.
-fn concludes<F: Field>(
-    rt: &impl Abort,
-    field: &F,
-    code: &Code,
-    slip: RunningSlip,
-    area: &[u16],
-    rounds: u16,
-) -> Result<(), Fail> {
-    let mut word = [9u8; 256];
-    match conclude(field, code, slip, area, &mut word) {
-        Ok(made) => assert_eq!(rt; made, rounds),
-        Err(back) => return Err(Fail::new(number(back.refusal))),
-    }
-    assert_eq!(rt; word, [0; 256]);
-    Ok(())
-}
-
-// At 0 rounds a row fails, and the slip comes back.
-fn not_yet<F: Field>(
-    rt: &impl Abort,
-    field: &F,
-    code: &Code,
-    slip: RunningSlip,
-    area: &[u16],
-) -> Result<RunningSlip, Fail> {
-    match conclude(field, code, slip, area, &mut [9u8; 256]) {
-        Ok(_) => Err(Fail::new("concluded")),
-        Err(back) => {
-            assert_eq!(rt; number(back.refusal), 24);
-            Ok(back.slip)
-        }
-    }
 }
 
 fn decodes<J: Joiner>(rt: &impl Abort, joiner: &J, area: &mut [u16]) -> Result<(), Fail> {
@@ -138,13 +99,14 @@ fn decodes<J: Joiner>(rt: &impl Abort, joiner: &J, area: &mut [u16]) -> Result<(
     let entries = entries();
     let mut code = Code::builtin();
     admit(HEADER, &edges, &entries, &mut code)?;
-    let slip = opened(&field, &code, area)?;
+    let slip = open(&field, &code, area)?;
     loads(&code, &slip, area)?;
-    let slip = running(&code, slip, area)?;
-    let mut slip = not_yet(rt, &field, &code, slip, area)?;
+    let slip = start(&code, slip, area).map_err(|back| back.refusal)?;
+    let mut word = [9u8; 256];
+    let mut slip = not_concluded(rt, &field, &code, slip, area, &mut word, 24);
     let made = rounds(&field, joiner, &code, &mut slip, area)?;
     assert_eq!(rt; made, 2);
-    concludes(rt, &field, &code, slip, area, 2)
+    concludes(rt, &field, &code, slip, area, &mut word, 2)
 }
 
 #[test]

@@ -1,7 +1,7 @@
-use crate::small::{WORDS, number, opened, running, small, started};
+use crate::small::{WORDS, not_concluded, small, started};
 use code::code::Code;
 use field::Field;
-use frame::{LoadingSlip, RunningSlip, conclude, load, open, read, round, start};
+use frame::{LoadingSlip, RunningSlip, load, open, read, round, start};
 use joiner::Full;
 use prime::Prime;
 use std::process::Abort;
@@ -18,10 +18,10 @@ fn refuses_opening(rt: &impl Abort, order: u8, words: usize, due: u8) -> Result<
     let code = small(20);
     let mut area = [7u16; WORDS];
     assert!(rt; words <= 168);
-    match open(&field, &code, &mut area[0..words]) {
-        Ok(_) => return Err(Fail::new("opened")),
-        Err(why) => assert_eq!(rt; number(why), due),
-    }
+    let why = open(&field, &code, &mut area[0..words])
+        .err()
+        .expect(rt, "opened");
+    assert_eq!(rt; why.number(), due);
     assert_eq!(rt; area, [7u16; WORDS]);
     Ok(())
 }
@@ -53,20 +53,19 @@ fn refuses_loading(
     due: u8,
 ) -> Result<(), Fail> {
     let mut area = [7u16; WORDS];
-    let slip = opened(&Prime::new(3)?, &small(limit), &mut area)?;
+    let slip = open(&Prime::new(3)?, &small(limit), &mut area)?;
     area[0] = 5;
     let before = area;
     assert!(rt; words <= 168 && size <= 4);
-    match load(
+    let why = load(
         &small(20),
         &slip,
         &mut area[0..words],
         column,
         &[3, 1, 4, 1][0..size],
-    ) {
-        Ok(()) => return Err(Fail::new("loaded")),
-        Err(why) => assert_eq!(rt; number(why), due),
-    }
+    )
+    .expect_err(rt, "loaded");
+    assert_eq!(rt; why.number(), due);
     assert_eq!(rt; area, before);
     Ok(())
 }
@@ -94,14 +93,10 @@ fn not_started(
     slip: LoadingSlip,
     area: &mut [u16],
     due: u8,
-) -> Result<LoadingSlip, Fail> {
-    match start(code, slip, area) {
-        Ok(_) => Err(Fail::new("started")),
-        Err(back) => {
-            assert_eq!(rt; number(back.refusal), due);
-            Ok(back.slip)
-        }
-    }
+) -> LoadingSlip {
+    let back = start(code, slip, area).err().expect(rt, "started");
+    assert_eq!(rt; back.refusal.number(), due);
+    back.slip
 }
 
 // The slip that comes back starts its own code's frame.
@@ -113,14 +108,14 @@ fn refuses_starting(
     due: u8,
 ) -> Result<(), Fail> {
     let mut area = [7u16; WORDS];
-    let slip = opened(&Prime::new(3)?, &small(limit), &mut area)?;
+    let slip = open(&Prime::new(3)?, &small(limit), &mut area)?;
     area[11] = cost;
     let before = area;
     assert!(rt; words <= 168);
-    let slip = not_started(rt, &small(20), slip, &mut area[0..words], due)?;
+    let slip = not_started(rt, &small(20), slip, &mut area[0..words], due);
     assert_eq!(rt; area, before);
     area[11] = 31;
-    let _ = running(&small(limit), slip, &mut area)?;
+    let _ = start(&small(limit), slip, &mut area).map_err(|back| back.refusal)?;
     Ok(())
 }
 
@@ -151,14 +146,9 @@ fn not_made<F: Field>(
     slip: &mut RunningSlip,
     area: &mut [u16],
     due: u8,
-) -> Result<(), Fail> {
-    match round(field, &Full, code, slip, area) {
-        Ok(_) => Err(Fail::new("made")),
-        Err(why) => {
-            assert_eq!(rt; number(why), due);
-            Ok(())
-        },
-    }
+) {
+    let why = round(field, &Full, code, slip, area).expect_err(rt, "made");
+    assert_eq!(rt; why.number(), due);
 }
 
 // A round that is granted tells this number of rounds.
@@ -170,13 +160,9 @@ fn made<F: Field>(
     area: &mut [u16],
     due: u16,
 ) -> Result<(), Fail> {
-    match round(field, &Full, code, slip, area) {
-        Ok(told) => {
-            assert_eq!(rt; told.rounds, due);
-            Ok(())
-        },
-        Err(why) => Err(Fail::new(number(why))),
-    }
+    let told = round(field, &Full, code, slip, area)?;
+    assert_eq!(rt; told.rounds, due);
+    Ok(())
 }
 
 fn refuses_round(
@@ -202,7 +188,7 @@ fn refuses_round(
         &mut slip,
         &mut area[0..words],
         due,
-    )?;
+    );
     assert_eq!(rt; area, before);
     area[11] = 31;
     area[41] = 31;
@@ -226,7 +212,7 @@ fn passing_the_limit(rt: HostRuntime) -> Result<(), Fail> {
     let mut slip = started(&field, &code, &mut area)?;
     made(&rt, &field, &code, &mut slip, &mut area, 1)?;
     let before = area;
-    not_made(&rt, &field, &code, &mut slip, &mut area, 23)?;
+    not_made(&rt, &field, &code, &mut slip, &mut area, 23);
     assert_eq!(rt; area, before);
     Ok(())
 }
@@ -254,16 +240,15 @@ fn refuses_reading(
     let before = area;
     let mut target = [9u16; 4];
     assert!(rt; words <= 168 && size <= 4);
-    match read(
+    let why = read(
         &small(20),
         &slip,
         &area[0..words],
         column,
         &mut target[0..size],
-    ) {
-        Ok(_) => return Err(Fail::new("read")),
-        Err(why) => assert_eq!(rt; number(why), due),
-    }
+    )
+    .expect_err(rt, "read");
+    assert_eq!(rt; why.number(), due);
     assert_eq!(rt; area, before);
     assert_eq!(rt; target, [9; 4]);
     Ok(())
@@ -289,25 +274,6 @@ const CONCLUDINGS: [(u8, u16, usize, usize, u8); 8] = [
     (3, 20, 168, 4, 24),
 ];
 
-// The slip that a refused conclude gives back.
-fn not_concluded<F: Field>(
-    rt: &impl Abort,
-    field: &F,
-    code: &Code,
-    slip: RunningSlip,
-    area: &[u16],
-    word: &mut [u8],
-    due: u8,
-) -> Result<RunningSlip, Fail> {
-    match conclude(field, code, slip, area, word) {
-        Ok(_) => Err(Fail::new("concluded")),
-        Err(back) => {
-            assert_eq!(rt; number(back.refusal), due);
-            Ok(back.slip)
-        }
-    }
-}
-
 // The slip that comes back makes its first round.
 fn refuses_concluding(
     rt: &impl Abort,
@@ -331,7 +297,7 @@ fn refuses_concluding(
         &area[0..words],
         &mut word[0..size],
         due,
-    )?;
+    );
     assert_eq!(rt; area, before);
     assert_eq!(rt; word, [9; 5]);
     made(rt, &field, &small(limit), &mut slip, &mut area, 1)

@@ -2,12 +2,14 @@ use code::code::Code;
 use code::code::admit::admit;
 use code::table::{Edge, Entry, Header};
 use field::Field;
-use frame::{FrameRefusal, LoadingSlip, RunningSlip, load, open, start};
+use frame::{RunningSlip, conclude, load, open, start};
+use std::process::Abort;
 use std::test::Fail;
 
 // The words that the small code asks for.
 pub const WORDS: usize = 168;
 
+// Stays (plain): a table that is lent for good has a constant value, which calls no function, so each line is written out.
 static EDGES: [Edge; 6] = [
     Edge {
         row: 0,
@@ -67,55 +69,42 @@ pub fn small(limit: u16) -> Code<'static> {
     code
 }
 
-// The number of a refusal.
-pub fn number(refusal: FrameRefusal) -> u8 {
-    match refusal {
-        FrameRefusal::Order => 18,
-        FrameRefusal::Numbers => 19,
-        FrameRefusal::Area => 20,
-        FrameRefusal::Column => 21,
-        FrameRefusal::Cost => 22,
-        FrameRefusal::Limit => 23,
-        FrameRefusal::RowFails => 24,
-        FrameRefusal::Length => 7,
-    }
-}
-
-// Opens a frame, which is granted.
-pub fn opened<F: Field>(field: &F, code: &Code, area: &mut [u16]) -> Result<LoadingSlip, Fail> {
-    match open(field, code, area) {
-        Ok(slip) => Ok(slip),
-        Err(why) => Err(Fail::new(number(why))),
-    }
-}
-
-// Loads a column, which is granted.
-pub fn loaded(
-    code: &Code,
-    slip: &LoadingSlip,
-    area: &mut [u16],
-    column: u16,
-    values: &[u16],
-) -> Result<(), Fail> {
-    match load(code, slip, area, column, values) {
-        Ok(()) => Ok(()),
-        Err(why) => Err(Fail::new(number(why))),
-    }
-}
-
-// Starts the rounds, which is granted.
-pub fn running(code: &Code, slip: LoadingSlip, area: &mut [u16]) -> Result<RunningSlip, Fail> {
-    match start(code, slip, area) {
-        Ok(slip) => Ok(slip),
-        Err(why) => Err(Fail::new(number(why.refusal))),
-    }
-}
-
 // Opens a frame of the small code, loads its columns and starts.
 pub fn started<F: Field>(field: &F, code: &Code, area: &mut [u16]) -> Result<RunningSlip, Fail> {
-    let slip = opened(field, code, area)?;
-    for c in 0..4u16 {
-        loaded(code, &slip, area, c, &LOADS[c as usize])?;
+    let slip = open(field, code, area)?;
+    for (column, costs) in LOADS.iter().enumerate() {
+        load(code, &slip, area, column as u16, costs)?;
     }
-    running(code, slip, area)
+    Ok(start(code, slip, area).map_err(|back| back.refusal)?)
+}
+
+// The slip that a refused conclude gives back.
+pub fn not_concluded<F: Field>(
+    rt: &impl Abort,
+    field: &F,
+    code: &Code,
+    slip: RunningSlip,
+    area: &[u16],
+    word: &mut [u8],
+    due: u8,
+) -> RunningSlip {
+    let back = conclude(field, code, slip, area, word).expect_err(rt, "concluded");
+    assert_eq!(rt; back.refusal.number(), due);
+    back.slip
+}
+
+// The word is all 0, after so many rounds.
+pub fn concludes<F: Field>(
+    rt: &impl Abort,
+    field: &F,
+    code: &Code,
+    slip: RunningSlip,
+    area: &[u16],
+    word: &mut [u8],
+    rounds: u16,
+) -> Result<(), Fail> {
+    let made = conclude(field, code, slip, area, word).map_err(|back| back.refusal)?;
+    assert_eq!(rt; made, rounds);
+    assert!(rt; word.iter().all(|symbol| *symbol == 0));
+    Ok(())
 }
