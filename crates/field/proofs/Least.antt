@@ -1,5 +1,6 @@
 -- The least search over codes, from the answers of a table. Assumes nothing.
-use Rattle.std.proofs.Common.{◌≡◌, ℕ, ◌<◌, ◌≤◌, Bool, true, false, cond, T, eqb, ltb, Some, None, sym, refl, ap, ◌∙◌, subst, arith, eqb→eq, ltb→lt, lt-ltb, eq-eqb}
+use Rattle.std.proofs.Common.{◌≡◌, ℕ, ◌<◌, ◌≤◌, Bool, true, false, cond, T, eqb, ltb, Some, None, Option, sym, refl, ap, ◌∙◌, subst, arith, eqb→eq, ltb→lt, lt-ltb, eq-eqb}
+use Rattle.std.specs.Option.{MatchOption}
 use Rattle.field.specs.Tables.{first, least, at_both}
 use Rattle.field.proofs.First.{first_found, first_none}
 
@@ -36,3 +37,11 @@ none q f a v un = go (ltb a q) refl
     go : (x : Bool) → ltb a q ≡ x → None ≡ cond x (first (λ b. eqb (f a b) v) 0 q) None
     go true p = sym (first_none (λ x. eqb (f a x) v) 0 q (λ k lo hi t. un k (omega arith) (at_both_is q f a k p (lt-ltb k q (omega arith)) ∙ ap Some (eqb→eq (f a k) v t))))
     go false p = refl
+
+-- what a search over the codes in turn answers
+pub searched : (q n : ℕ) (f : ℕ → ℕ → ℕ) (a v : ℕ) (r : Option ℕ) → n ≡ q
+    → MatchOption r ((k : ℕ) → 0 ≤ k → k < n → at_both q f a k ≡ Some v → ⊥)
+      (λ b. (0 ≤ b) × (b < n) × (at_both q f a b ≡ Some v) × ((k : ℕ) → 0 ≤ k → k < b → at_both q f a k ≡ Some v → ⊥))
+    → r ≡ least q f a v
+searched q n f a v None e m = none q f a v (λ k h. m k (omega arith) (omega arith))
+searched q n f a v (Some b) e m = found q f a b v m.2 (λ k h. m.3 k (omega arith) h)

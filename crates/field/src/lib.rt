@@ -33,12 +33,7 @@ pub trait Field {
     fn inverse(&self, a: u8) -> Option<u8>
         ensures { result ≡ inverse_of (meaning self.now) a }
     {
-        for b in 0..self.order() {
-            if self.product(a, b) == Some(1) {
-                return Some(b);
-            }
-        }
-        None
+        (0..self.order()).find(|b| self.product(a, *b) == Some(1))
     }
 
     ghost lawful: { (f : Self) → Lawful (meaning f) };

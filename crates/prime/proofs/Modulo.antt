@@ -1,13 +1,10 @@
 -- Remainder and opposite modulo q without a division. Assumes nothing.
-use Rattle.std.proofs.Common.{◌≡◌, ℕ, ◌+◌, ◌-◌, ◌%◌, ◌<◌, ◌≤◌, true, Some, sym, ap, ◌∙◌, mod-eq_of_lt, arith}
-use native.Mathlib.Nat.{mod-eq-sub-mod, mod_self, zero-mod}
+use Rattle.std.proofs.Common.{◌≡◌, ℕ, ◌+◌, ◌-◌, ◌%◌, ◌<◌, true, Some, sym, ap, ◌∙◌, arith}
+use native.Mathlib.Nat.{mod_self, zero-mod}
 use Rattle.field.specs.Tables.{opposite_of}
 use Rattle.field.proofs.Unique.{opposite_is}
 use Rattle.prime.specs.Primes.{is_prime, prime_tables}
 use Rattle.prime.specs.Laws.{prime_laws}
-
-pub over : (q n : ℕ) → q ≤ n → n < q + q → n - q ≡ n % q
-over q n lo hi = sym (mod-eq-sub-mod lo ∙ mod-eq_of_lt (omega arith))
 
 pub opposite_zero : (q a : ℕ) → is_prime q ≡ true → a < q → a ≡ 0 → Some 0 ≡ opposite_of (prime_tables q) a
 opposite_zero q a p h e =

@@ -25,6 +25,7 @@ impl Prime {
     }
 
     // The opposite of a code.
+    #[tactic(auto, using(crate::proofs::Modulo::opposite_zero, crate::proofs::Modulo::opposite_over))]
     fn negated(&self, a: u8) -> u8
         requires { a < self.now.q }
         ensures { Some result ≡ opposite_of (prime_tables self.now.q) a }
@@ -43,23 +44,15 @@ impl Field for Prime {
     }
 
     fn sum(&self, a: u8, b: u8) -> Option<u8> {
-        if a >= self.q || b >= self.q {
-            return None;
-        }
-        Some(self.reduced(a + b))
+        (a < self.q && b < self.q).then(|| self.reduced(a + b))
     }
 
     fn product(&self, a: u8, b: u8) -> Option<u8> {
-        if a >= self.q || b >= self.q {
-            return None;
-        }
-        Some((a as u16 * b as u16 % self.q as u16) as u8)
+        (a < self.q && b < self.q).then(|| (a as u16 * b as u16 % self.q as u16) as u8)
     }
 
+    #[tactic(auto, using(field::proofs::Unique::least_out))]
     fn opposite(&self, a: u8) -> Option<u8> {
-        if a >= self.q {
-            return None;
-        }
-        Some(self.negated(a))
+        (a < self.q).then(|| self.negated(a))
     }
 }

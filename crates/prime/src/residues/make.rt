@@ -1,5 +1,5 @@
 ghost use Rattle.std.specs.Prelude.{◌≡◌};
-ghost use Rattle.prime.specs.Primes.{prime_answer, member, PrimesListed};
+ghost use Rattle.prime.specs.Primes.{prime_answer, PrimesListed};
 ghost use Rattle.prime.specs.Answers.{answer_of};
 
 use super::Prime;
@@ -9,19 +9,9 @@ const PRIMES: [u8; 18] = [
     2, 3, 5, 7, 11, 13, 17, 19, 23, 29, 31, 37, 41, 43, 47, 53, 59, 61,
 ];
 
-fn listed(list: &[u8], q: u8) -> bool
-    ensures { result ≡ member q list.now }
-{
-    for x in list {
-        if q == *x {
-            return true;
-        }
-    }
-    false
-}
-
 impl Prime {
     // The prime field of order `q`. Refuses with 1 if q is outside 2 to 64, with 2 unless q is prime.
+    #[tactic(auto, using(crate::proofs::Contained::contained, crate::proofs::Factors::primes_listed))]
     pub fn new(q: u8) -> Result<Prime, FieldRefusal>
         ensures answer { answer_of result ≡ prime_answer q }
         ensures law { PrimesListed }
@@ -29,7 +19,7 @@ impl Prime {
         if q < 2 || q > 64 {
             return Err(FieldRefusal::Order);
         }
-        if listed(&PRIMES, q) {
+        if PRIMES.contains(&q) {
             Ok(Prime { q })
         } else {
             Err(FieldRefusal::NotPrime)
