@@ -1,4 +1,4 @@
-ghost use Rattle.std.specs.Prelude.{◌≡◌, ◌^◌, ◌<◌, true, Some};
+ghost use Rattle.std.specs.Prelude.{◌≡◌, ◌^◌, ◌≤◌, true};
 ghost use Rattle.field.specs.Tables.{inverse_of};
 ghost use Rattle.field.specs.Grids.{grid, solutions};
 ghost use Rattle.binary.specs.Fields.{is_binary, binary_tables, product_by};
@@ -9,7 +9,6 @@ use field::Field;
 mod inverses;
 mod make;
 mod products;
-mod tables;
 
 // A binary field of order 2^p: bit i of a code is the coefficient of power i, the sum is exclusive or,
 // and the product is reduced by an irreducible polynomial of degree p, written the same way.
@@ -23,25 +22,9 @@ pub struct Binary {
     inverses: [u8; 64],
     ghost admitted: { is_binary p polynomial ≡ true },
     ghost sized: { q ≡ 2 ^ p },
+    ghost small: { q ≤ 64 },
     ghost multiplied: { products ≡ grid 64 q (product_by p polynomial) },
     ghost inverted: { inverses ≡ solutions q (product_by p polynomial) 1 },
-}
-
-// What the tables hold for codes: one read each.
-impl Binary {
-    fn product_at(&self, a: u8, b: u8) -> u8
-        requires { (a < self.now.q) × (b < self.now.q) }
-        ensures { result ≡ product_by self.now.p self.now.polynomial a b }
-    {
-        self.products[a as usize * 64 + b as usize]
-    }
-
-    fn inverse_at(&self, a: u8) -> u8
-        requires { (0 < a) × (a < self.now.q) }
-        ensures { Some result ≡ inverse_of (binary_tables self.now.p self.now.polynomial) a }
-    {
-        self.inverses[a as usize]
-    }
 }
 
 impl Field for Binary {
@@ -55,30 +38,23 @@ impl Field for Binary {
 
     fn sum(&self, a: u8, b: u8) -> Option<u8> {
         let q = self.order();
-        if a < q && b < q { Some(a ^ b) } else { None }
+        (a < q && b < q).then_some(a ^ b)
     }
 
+    #[tactic(auto, using(crate::proofs::Whole::product_held))]
     fn product(&self, a: u8, b: u8) -> Option<u8> {
-        if a < self.order() && b < self.order() {
-            Some(self.product_at(a, b))
-        } else {
-            None
-        }
+        let q = self.order();
+        (a < q && b < q).then(|| self.products[a as usize * 64 + b as usize])
     }
 
+    // In these fields each code is its own opposite.
+    #[tactic(auto, using(field::proofs::Unique::least_out, crate::proofs::Whole::own_opposite))]
     fn opposite(&self, a: u8) -> Option<u8> {
-        if a < self.order() {
-            Some(self.negated(a))
-        } else {
-            None
-        }
+        (a < self.order()).then_some(a)
     }
 
+    #[tactic(auto, using(crate::proofs::Whole::no_inverse, crate::proofs::Whole::inverse_held))]
     fn inverse(&self, a: u8) -> Option<u8> {
-        if a > 0 && a < self.order() {
-            Some(self.inverse_at(a))
-        } else {
-            None
-        }
+        (a > 0 && a < self.order()).then(|| self.inverses[a as usize])
     }
 }

@@ -31,10 +31,5 @@ pub(crate) fn splits(p: u8, m: u8) -> bool
     requires { (p < 7) × (has_degree m p ≡ true) }
     ensures { result ≡ reducible p m }
 {
-    for d in 2..2 << (p >> 1) {
-        if divide(m, d).rest == 0 {
-            return true;
-        }
-    }
-    false
+    (2..2 << (p >> 1)).any(|d| divide(m, d).rest == 0)
 }

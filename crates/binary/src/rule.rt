@@ -18,20 +18,13 @@ impl Rule {
     pub(crate) fn product(&self, a: u8, b: u8) -> Option<u8>
         ensures { result ≡ product_of (binary_tables self.now.p self.now.polynomial) a b }
     {
-        if a < self.q && b < self.q {
-            Some(self.times(a, b))
-        } else {
-            None
-        }
+        (a < self.q && b < self.q).then(|| self.times(a, b))
     }
 
+    #[tactic(auto, using(crate::proofs::Whole::no_inverse))]
     pub(crate) fn inverse(&self, a: u8) -> Option<u8>
         ensures { result ≡ inverse_of (binary_tables self.now.p self.now.polynomial) a }
     {
-        if a > 0 && a < self.q {
-            Some(self.inverted(a))
-        } else {
-            None
-        }
+        (a > 0 && a < self.q).then(|| self.inverted(a))
     }
 }

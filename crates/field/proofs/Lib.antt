@@ -1,5 +1,6 @@
 pub mod First
 pub mod Least
+pub mod Ranges
 pub mod Tested
 pub mod Prop
 pub mod Checked

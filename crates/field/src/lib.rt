@@ -5,8 +5,10 @@ ghost use Rattle.field.specs.Refusals.{number_of};
 ghost use Rattle.field.specs.Tables.{Tables, Lawful, sum_of, product_of, opposite_of, inverse_of};
 
 mod pairs;
+mod tables;
 
 pub use pairs::{are_inverse, are_opposite};
+pub use tables::fill;
 
 // A finite field over the codes 0 to q − 1. Its meaning is the order q and two tables, and every implementation shows their laws.
 // Each answer comes from the tables: `None` if a code given is not below q, and for the inverse of 0.

@@ -1,20 +1,9 @@
 ghost use Rattle.std.specs.Prelude.{◌≡◌, ◌^◌, ◌<◌, Some};
-ghost use Rattle.field.specs.Tables.{opposite_of, inverse_of};
+ghost use Rattle.field.specs.Tables.{inverse_of};
 ghost use Rattle.binary.specs.Fields.{binary_tables};
 
-use super::Binary;
 use crate::polynomial::divide;
 use crate::rule::Rule;
-
-impl Binary {
-    // The opposite of the code `a`: the code itself.
-    pub(super) fn negated(&self, a: u8) -> u8
-        requires { a < 2 ^ self.now.p }
-        ensures { Some result ≡ opposite_of (binary_tables self.now.p self.now.polynomial) a }
-    {
-        a
-    }
-}
 
 impl Rule {
     // The inverse of the code `a`, not 0, in at most p turns: the polynomial divided by a rest leaves one of lower degree.
