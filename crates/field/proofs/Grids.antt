@@ -1,5 +1,5 @@
 -- Bytes that hold a table: filling them, and what they hold. Assumes nothing.
-use Rattle.std.proofs.Common.{◌≡◌, ℕ, ◌+◌, ◌*◌, ◌<◌, ◌≤◌, List, map, length, get_or, set, Some, Option, unwrap_or, sym, ap, ◌∙◌, ap₂, zero-add, arith, length-set, lt-ltb}
+use Rattle.std.proofs.Common.{◌≡◌, ℕ, ◌+◌, ◌*◌, ◌<◌, ◌≤◌, Bool, true, false, ltb, ltb-true, List, map, length, get_or, set, Some, Option, unwrap_or, sym, refl, ap, ◌∙◌, ap₂, zero-add, arith, length-set, lt-ltb}
 use Rattle.std.specs.List.{range_with_len}
 use Rattle.std.proofs.lemmas.Nat.{mul-add-lt, div-mul-add, mod-mul-add}
 use Rattle.std.proofs.lemmas.List.FromFn.{get_or-map-range_with_len, fill_by_all}
@@ -37,6 +37,14 @@ looked_up q f v a h = get_or-map-range_with_len (solution q f v) 0 64 a a 0 h (z
 -- what a field's own tables answer
 pub read : (q : ℕ) (f : ℕ → ℕ → ℕ) (xs : List ℕ) (a b : ℕ) → q ≤ 64 → a < q → b < q → xs ≡ grid 64 q f → entry 64 xs a b ≡ f a b
 read q f xs a b fit ha hb e = ap (λ (ys : List ℕ). entry 64 ys a b) e ∙ lookup 64 q f a b fit ha hb
+
+pub read_both : (q n : ℕ) (f : ℕ → ℕ → ℕ) (xs : List ℕ) (a b : ℕ) → q ≡ n → q ≤ 64 → xs ≡ grid 64 q f → at_both q (entry 64 xs) a b ≡ at_both n f a b
+read_both q n f xs a b same fit e = go (ltb a q) (ltb b q) refl refl ∙ ap (λ (m : ℕ). at_both m f a b) same
+  where
+    go : (x y : Bool) → ltb a q ≡ x → ltb b q ≡ y → at_both q (entry 64 xs) a b ≡ at_both q f a b
+    go true true p r = rw (p, r) (ap Some (read q f xs a b fit (ltb-true a q p) (ltb-true b q r) e))
+    go true false p r = rw (p, r)
+    go false y p r = rw p
 
 pub read_one : (q n : ℕ) (f : ℕ → ℕ → ℕ) (v : ℕ) (xs : List ℕ) (a b : ℕ) → q ≡ n → a < 64 → xs ≡ solutions q f v → least n f a v ≡ Some b → Some (get_or xs a 0) ≡ least n f a v
 read_one q n f v xs a b same fit e is =

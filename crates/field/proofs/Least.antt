@@ -41,7 +41,15 @@ none q f a v un = go (ltb a q) refl
 -- what a search over the codes in turn answers
 pub searched : (q n : ℕ) (f : ℕ → ℕ → ℕ) (a v : ℕ) (r : Option ℕ) → n ≡ q
     → MatchOption r ((k : ℕ) → 0 ≤ k → k < n → at_both q f a k ≡ Some v → ⊥)
-      (λ b. (0 ≤ b) × (b < n) × (at_both q f a b ≡ Some v) × ((k : ℕ) → 0 ≤ k → k < b → at_both q f a k ≡ Some v → ⊥))
+    (λ b. (0 ≤ b) × (b < n) × (at_both q f a b ≡ Some v) × ((k : ℕ) → 0 ≤ k → k < b → at_both q f a k ≡ Some v → ⊥))
     → r ≡ least q f a v
 searched q n f a v None e m = none q f a v (λ k h. m k (omega arith) (omega arith))
 searched q n f a v (Some b) e m = found q f a b v m.2 (λ k h. m.3 k (omega arith) h)
+
+-- the same of a search along the row of a code
+pub searched_row : (q : ℕ) (f : ℕ → ℕ → ℕ) (a v : ℕ) (r : Option ℕ) → a < q
+    → MatchOption r ((k : ℕ) → 0 ≤ k → k < q → f a k ≡ v → ⊥) (λ b. (0 ≤ b) × (b < q) × (f a b ≡ v) × ((k : ℕ) → 0 ≤ k → k < b → f a k ≡ v → ⊥))
+    → r ≡ least q f a v
+searched_row q f a v None code m = none q f a v (λ k h s. m k (omega arith) h (both q f a k v s).is)
+searched_row q f a v (Some b) code m =
+    found q f a b v (at_both_is q f a b (lt-ltb a q code) (lt-ltb b q m.1) ∙ ap Some m.2) (λ k h s. m.3 k (omega arith) h (both q f a k v s).is)

@@ -1,5 +1,5 @@
 -- What `any` over a range tells, said of the numbers in it and not of a list. Assumes nothing.
-use Rattle.std.proofs.Common.{◌≡◌, ℕ, ◌+◌, ◌-◌, ◌<◌, ◌≤◌, Bool, true, false, List, length, Option, sym, refl, subst, ◌∙◌, arith}
+use Rattle.std.proofs.Common.{◌≡◌, ℕ, ◌+◌, ◌-◌, ◌<◌, ◌≤◌, Bool, true, false, List, length, Option, refl, subst, ◌∙◌, arith}
 use denote.Param.Members.{Mut}
 use Rattle.std.specs.declared.ops.Range.{Range}
 use Rattle.std.proofs.iter.Yields.{nat_range_steps}
@@ -24,7 +24,7 @@ numbers a n false Yes No m = λ k lo hi.
 
 pub any_from_Range : {F : Type 0} {g : Mut F (ℕ × Unit {0}) Bool} (s u : Range ℕ) (f : F) (r : Bool) (Yes No : ℕ → Type 0)
     → (xs : List ℕ) × (o : Option ℕ) × (j : F) × YieldsThen nat_range_steps s xs o u × FoldsTo (λ p x q. Called g p (x, tt) false q) f xs j
-      × MatchOption o (r ≡ false) (λ x. (r ≡ true) × ((h : F) × Called g j (x, tt) true h))
+    × MatchOption o (r ≡ false) (λ x. (r ≡ true) × ((h : F) × Called g j (x, tt) true h))
     → ((x : ℕ) (q : F) → Called g f (x, tt) true q → Yes x)
     → ((x : ℕ) (q : F) → Called g f (x, tt) false q → (q ≡ f) × No x)
     → MatchBool r ((k : ℕ) × (s.start ≤ k) × (k < s.start + (s.end - s.start)) × Yes k) ((k : ℕ) → s.start ≤ k → k < s.start + (s.end - s.start) → No k)

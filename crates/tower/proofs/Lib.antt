@@ -3,3 +3,4 @@ pub mod Copies
 pub mod Agrees
 pub mod Only
 pub mod Made
+pub mod Held

@@ -8,7 +8,7 @@ use Rattle.tower.specs.declared.extension.Tower.{Tower}
 
 -- what a tower stands on; its own tables follow from it by its invariant
 abbrev pub parts_of : Tower → Parts
-parts_of t = record { r = t.base.r; u = t.u; v = t.v; sums = t.base.sums; products = t.base.products }
+parts_of t = record { r = t.pairs.base.r; u = t.pairs.u; v = t.pairs.v; sums = t.pairs.base.sums; products = t.pairs.base.products }
 
 -- the field that a tower is
 abbrev pub meaning_of : Tower → Tables

@@ -1,7 +1,6 @@
 -- A tower's invariant makes it a field. Assumes nothing.
-use Rattle.std.proofs.Common.{subst, sym}
 use Rattle.std.proofs.Math.Logic.{∥∥₁_elim}
-use Rattle.std.specs.Prelude.{ℕ, ◌≤◌}
+use Rattle.std.specs.Prelude.{◌≤◌}
 use Rattle.field.specs.Tables.{Lawful}
 use Rattle.field.proofs.Prop.{lawful_prop}
 use Rattle.tower.specs.Copies.{tables_of}
@@ -12,8 +11,8 @@ use Rattle.tower.specs.Laws.{tower_laws}
 
 pub tower_lawful : (f : Tower) → Lawful (meaning_of f)
 tower_lawful f =
-    ∥∥₁_elim f.base.laws (lawful_prop (meaning_of f))
-    (λ l. tower_laws (tables_of f.base) l (f.u, f.codes.0) (f.v, f.codes.1) (square_small f.base.r f.base.small) f.rootless)
+    ∥∥₁_elim f.pairs.base.laws (lawful_prop (meaning_of f))
+    (λ l. tower_laws (tables_of f.pairs.base) l (f.pairs.u, f.pairs.codes.0) (f.pairs.v, f.pairs.codes.1) (square_small f.pairs.base.r f.pairs.base.small) f.rootless)
 
 pub order_fits : (f : Tower) → f.q ≤ 64
-order_fits f = subst (λ (n : ℕ). n ≤ 64) (sym f.square) (square_small f.base.r f.base.small)
+order_fits f = f.small

@@ -4,27 +4,7 @@ ghost use Rattle.tower.specs.Towers.{bits, has_root};
 ghost use Rattle.tower.specs.Copies.{tables_of};
 
 use super::Base;
-use field::Field;
-
-fn copy_sums<F: Field>(field: &F) -> [u8; 64]
-    ensures { result ≡ grid 8 (F.Field.meaning field.now).order (F.Field.meaning field.now).sum }
-{
-    let mut out = [0; 64];
-    for k in 0..64 {
-        out[k as usize] = field.sum(k / 8, k % 8).unwrap_or(0);
-    }
-    out
-}
-
-fn copy_products<F: Field>(field: &F) -> [u8; 64]
-    ensures { result ≡ grid 8 (F.Field.meaning field.now).order (F.Field.meaning field.now).product }
-{
-    let mut out = [0; 64];
-    for k in 0..64 {
-        out[k as usize] = field.product(k / 8, k % 8).unwrap_or(0);
-    }
-    out
-}
+use field::{Field, fill};
 
 // The copied tables of a field of order 8 at most.
 pub(crate) fn copy<F: Field>(field: &F) -> Base
@@ -34,8 +14,12 @@ pub(crate) fn copy<F: Field>(field: &F) -> Base
     ensures products { result.products ≡ grid 8 (F.Field.meaning field.now).order (F.Field.meaning field.now).product }
 {
     let r = field.order();
-    let sums = copy_sums(field);
-    let products = copy_products(field);
+    let mut sums = [0; 64];
+    fill(&mut sums, |k| field.sum((k / 8) as u8, (k % 8) as u8));
+    let mut products = [0; 64];
+    fill(&mut products, |k| {
+        field.product((k / 8) as u8, (k % 8) as u8)
+    });
     Base { r, sums, products }
 }
 

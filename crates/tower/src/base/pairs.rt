@@ -5,49 +5,56 @@ ghost use Rattle.tower.specs.Copies.{tables_of};
 
 use super::Base;
 
-impl Base {
+// The pairs l + h·y over a base, where y·y = u·y + v.
+#[derive(Clone, Copy)]
+pub(crate) struct Pairs {
+    pub(crate) base: Base,
+    pub(crate) u: u8,
+    pub(crate) v: u8,
+    ghost codes: { (u < base.r) × (v < base.r) },
+}
+
+impl Pairs {
     // The low part of (l + h·y)·(m + k·y).
-    fn low(&self, v: u8, l: u8, h: u8, m: u8, k: u8) -> u8
-        requires { (v < self.now.r) × ((l < self.now.r) × ((h < self.now.r) × ((m < self.now.r) × (k < self.now.r)))) }
-        ensures answer { result ≡ low_of (tables_of self.now) v l h m k }
-        ensures code { result < self.now.r }
+    fn low(&self, l: u8, h: u8, m: u8, k: u8) -> u8
+        requires { (l < self.now.base.r) × ((h < self.now.base.r) × ((m < self.now.base.r) × (k < self.now.base.r))) }
+        ensures answer { result ≡ low_of (tables_of self.now.base) self.now.v l h m k }
+        ensures code { result < self.now.base.r }
     {
-        self.sum(self.product(l, m), self.product(v, self.product(h, k)))
+        let base = &self.base;
+        base.sum(base.product(l, m), base.product(self.v, base.product(h, k)))
     }
 
     // Its high part.
-    fn high(&self, u: u8, l: u8, h: u8, m: u8, k: u8) -> u8
-        requires { (u < self.now.r) × ((l < self.now.r) × ((h < self.now.r) × ((m < self.now.r) × (k < self.now.r)))) }
-        ensures answer { result ≡ high_of (tables_of self.now) u l h m k }
-        ensures code { result < self.now.r }
+    fn high(&self, l: u8, h: u8, m: u8, k: u8) -> u8
+        requires { (l < self.now.base.r) × ((h < self.now.base.r) × ((m < self.now.base.r) × (k < self.now.base.r))) }
+        ensures answer { result ≡ high_of (tables_of self.now.base) self.now.u l h m k }
+        ensures code { result < self.now.base.r }
     {
-        let cross = self.sum(self.product(l, k), self.product(h, m));
-        self.sum(cross, self.product(u, self.product(h, k)))
+        let base = &self.base;
+        let cross = base.sum(base.product(l, k), base.product(h, m));
+        base.sum(cross, base.product(self.u, base.product(h, k)))
     }
 
-    // The sum of two pairs l + h·y, by their codes l + r × h.
-    pub(crate) fn pair_sum(&self, a: u8, b: u8) -> Option<u8>
-        ensures { result ≡ at_both (self.now.r * self.now.r) (pair_sum (tables_of self.now)) a b }
+    // The sum of two pairs, by their codes l + r × h.
+    pub(crate) fn sum(&self, a: u8, b: u8) -> Option<u8>
+        ensures { result ≡ at_both (self.now.base.r * self.now.base.r) (pair_sum (tables_of self.now.base)) a b }
     {
-        let r = self.r;
+        let r = self.base.r;
         if a < r * r && b < r * r {
-            Some(self.sum(a % r, b % r) + r * self.sum(a / r, b / r))
+            Some(self.base.sum(a % r, b % r) + r * self.base.sum(a / r, b / r))
         } else {
             None
         }
     }
 
-    // The product of two pairs, where y·y = u·y + v.
-    pub(crate) fn pair_product(&self, u: u8, v: u8, a: u8, b: u8) -> Option<u8>
-        requires { (u < self.now.r) × (v < self.now.r) }
-        ensures { result ≡ at_both (self.now.r * self.now.r) (pair_product (tables_of self.now) u v) a b }
+    // Their product.
+    pub(crate) fn product(&self, a: u8, b: u8) -> Option<u8>
+        ensures { result ≡ at_both (self.now.base.r * self.now.base.r) (pair_product (tables_of self.now.base) self.now.u self.now.v) a b }
     {
-        let r = self.r;
+        let r = self.base.r;
         if a < r * r && b < r * r {
-            Some(
-                self.low(v, a % r, a / r, b % r, b / r)
-                    + r * self.high(u, a % r, a / r, b % r, b / r),
-            )
+            Some(self.low(a % r, a / r, b % r, b / r) + r * self.high(a % r, a / r, b % r, b / r))
         } else {
             None
         }

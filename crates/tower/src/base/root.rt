@@ -2,26 +2,21 @@ ghost use Rattle.std.specs.Prelude.{◌≡◌, ◌<◌};
 ghost use Rattle.tower.specs.Towers.{is_root, has_root};
 ghost use Rattle.tower.specs.Copies.{tables_of};
 
-use super::Base;
+use super::pairs::Pairs;
 
-impl Base {
-    fn is_root(&self, u: u8, v: u8, x: u8) -> bool
-        requires { (u < self.now.r) × ((v < self.now.r) × (x < self.now.r)) }
-        ensures { result ≡ is_root (tables_of self.now) u v x }
+impl Pairs {
+    fn is_root(&self, x: u8) -> bool
+        requires { x < self.now.base.r }
+        ensures { result ≡ is_root (tables_of self.now.base) self.now.u self.now.v x }
     {
-        self.product(x, x) == self.sum(self.product(u, x), v)
+        let base = &self.base;
+        base.product(x, x) == base.sum(base.product(self.u, x), self.v)
     }
 
     // Whether t·t = u·t + v for some code t of the base.
-    pub(crate) fn has_root(&self, u: u8, v: u8) -> bool
-        requires { (u < self.now.r) × (v < self.now.r) }
-        ensures { result ≡ has_root (tables_of self.now) u v }
+    pub(crate) fn has_root(&self) -> bool
+        ensures { result ≡ has_root (tables_of self.now.base) self.now.u self.now.v }
     {
-        for x in 0..self.r {
-            if self.is_root(u, v, x) {
-                return true;
-            }
-        }
-        false
+        (0..self.base.r).any(|x| self.is_root(x))
     }
 }

@@ -1,30 +1,33 @@
-ghost use Rattle.std.specs.Prelude.{◌≡◌, ◌<◌, false, if◌then◌else◌, nat_eq};
+ghost use Rattle.std.specs.Prelude.{◌≡◌, false, if◌then◌else◌, nat_eq};
 ghost use Rattle.tower.specs.Towers.{has_root, parts_for, tower_refusal, tower_tables, bits};
 ghost use Rattle.tower.specs.Raised.{Agree, Raised, OneTower};
 ghost use Rattle.tower.specs.Copies.{tables_of};
 ghost use Rattle.tower.specs.Made.{parts_of, meaning_of, refusal_of};
 
 use super::Tower;
-use super::tables::{all_products, all_sums, solve_all};
-use crate::base::Base;
+use super::tables::solve;
 use crate::base::copy::{copy, two};
-use field::{Field, FieldRefusal};
+use crate::base::pairs::Pairs;
+use field::{Field, FieldRefusal, fill};
 
-// The tower on copied tables, with its own tables filled.
-fn raise(base: Base, u: u8, v: u8) -> Tower
-    requires { (u < base.r) × ((v < base.r) × (has_root (tables_of base) u v ≡ false)) }
-    ensures base { result.base ≡ base }
-    ensures numbers { (result.u ≡ u) × (result.v ≡ v) }
+// The tower of all pairs, with its own tables filled.
+fn raise(pairs: Pairs) -> Tower
+    requires { has_root (tables_of pairs.base) pairs.u pairs.v ≡ false }
+    ensures { result.pairs ≡ pairs }
 {
-    let q = base.r * base.r;
-    let sums = all_sums(&base);
-    let products = all_products(&base, u, v);
-    let opposites = solve_all(&sums, q, 0);
-    let inverses = solve_all(&products, q, 1);
+    let q = pairs.base.r * pairs.base.r;
+    let mut sums = [0; 4096];
+    fill(&mut sums, |k| pairs.sum((k / 64) as u8, (k % 64) as u8));
+    let mut products = [0; 4096];
+    fill(&mut products, |k| {
+        pairs.product((k / 64) as u8, (k % 64) as u8)
+    });
+    let mut opposites = [0; 64];
+    fill(&mut opposites, |a| solve(&sums, q, 0, a as u8));
+    let mut inverses = [0; 64];
+    fill(&mut inverses, |a| solve(&products, q, 1, a as u8));
     Tower {
-        base,
-        u,
-        v,
+        pairs,
         q,
         sums,
         products,
@@ -49,11 +52,15 @@ pub fn make_tower<F: Field>(base: &F, u: u8, v: u8, tower: &mut Tower) -> Result
     if u >= r || v >= r {
         return Err(FieldRefusal::NotCode);
     }
-    let copied = copy(base);
-    if copied.has_root(u, v) {
+    let pairs = Pairs {
+        base: copy(base),
+        u,
+        v,
+    };
+    if pairs.has_root() {
         return Err(FieldRefusal::Root);
     }
-    *tower = raise(copied, u, v);
+    *tower = raise(pairs);
     Ok(())
 }
 
@@ -62,6 +69,10 @@ impl Tower {
     pub fn of_four() -> Tower
         ensures { parts_of result ≡ parts_for bits 1 1 }
     {
-        raise(two(), 1, 1)
+        raise(Pairs {
+            base: two(),
+            u: 1,
+            v: 1,
+        })
     }
 }

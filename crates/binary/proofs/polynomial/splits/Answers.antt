@@ -4,7 +4,7 @@ use Rattle.std.specs.Bool.{MatchBool}
 use Rattle.std.proofs.lemmas.Nat.{shl_whole}
 use Rattle.std.proofs.lemmas.Bool.{cases_eq}
 use Rattle.field.proofs.Ranges.{any_from_Range}
-use Rattle.binary.specs.Polynomials.{carryless, has_degree, reducible, Divided}
+use Rattle.binary.specs.Polynomials.{has_degree, reducible, Divided}
 use Rattle.binary.specs.Factors.{no_factor, factor_found, whole_half, reducible_none}
 use Rattle.binary.proofs.polynomial.splits.Goals as goal
 
