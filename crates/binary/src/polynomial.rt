@@ -16,6 +16,7 @@ pub(crate) fn divide(x: u8, d: u8) -> Division
     let degree = 7 - d.leading_zeros();
     let mut quotient: u8 = 0;
     let mut rest = x;
+    // Stays (plain): the turn's power shifts the divisor and marks the quotient, and a fold would carry both results in a tuple.
     for i in (0..8 - degree).rev() {
         if rest >> (degree + i) == 1 {
             rest ^= d << i;

@@ -1,24 +1,10 @@
--- Bytes that hold a table: filling them, and what they hold. Assumes nothing.
-use Rattle.std.proofs.Common.{◌≡◌, ℕ, ◌+◌, ◌*◌, ◌<◌, ◌≤◌, Bool, true, false, ltb, ltb-true, List, map, length, get_or, set, Some, Option, unwrap_or, sym, refl, ap, ◌∙◌, ap₂, zero-add, arith, length-set, lt-ltb}
-use Rattle.std.specs.List.{range_with_len}
+-- Bytes that hold a table, and what they hold. Assumes nothing.
+use Rattle.std.proofs.Common.{◌≡◌, ℕ, ◌+◌, ◌*◌, ◌<◌, ◌≤◌, Bool, true, false, ltb, ltb-true, List, get_or, Some, Option, unwrap_or, sym, refl, ap, ◌∙◌, ap₂, zero-add, arith, lt-ltb}
 use Rattle.std.proofs.lemmas.Nat.{mul-add-lt, div-mul-add, mod-mul-add}
-use Rattle.std.proofs.lemmas.List.FromFn.{get_or-map-range_with_len, fill_by_all}
-use Rattle.std.proofs.lemmas.List.Edits.{fill_by_more}
+use Rattle.std.proofs.lemmas.List.FromFn.{get_or-map-range_with_len}
 use Rattle.field.specs.Tables.{at_both, least}
 use Rattle.field.proofs.Least.{at_both_is}
 use Rattle.field.specs.Grids.{entry, cell, grid, solution, solutions}
-
--- n bytes, of which the first k hold f
-abbrev pub Filled : ℕ → (ℕ → ℕ) → ℕ → List ℕ → Type 0
-Filled n f k xs = (length xs ≡ n) × ((j : ℕ) → j < k → get_or xs j 0 ≡ f j)
-
-pub filled_more : (n : ℕ) (f : ℕ → ℕ) (k x : ℕ) (xs : List ℕ) → k < n → x ≡ f k → Filled n f k xs → Filled n f (k + 1) (set xs k x)
-filled_more n f k x xs h e w =
-    let in' : k < length xs = omega (arith, w.0) in
-    (simp length-set w.0, rw e (fill_by_more f xs k 0 in' w.1))
-
-pub filled_all : (n : ℕ) (f : ℕ → ℕ) (k : ℕ) (xs : List ℕ) → n ≤ k → Filled n f k xs → xs ≡ map f (range_with_len 0 n)
-filled_all n f k xs h w = fill_by_all f xs n 0 w.0 (λ j hj. w.1 j (omega arith))
 
 -- the entries of a grid are those of the table
 pub lookup : (w q : ℕ) (f : ℕ → ℕ → ℕ) (a b : ℕ) → q ≤ w → a < q → b < q → entry w (grid w q f) a b ≡ f a b

@@ -17,6 +17,7 @@ pub(crate) struct Base {
     ghost laws: { ∥ Lawful (copied r sums products) ∥₁ },
 }
 
+// Stays (plain): sum and product differ in the table alone, and one function would take the table as a parameter at each call.
 impl Base {
     // The sum of two codes of the base.
     pub(crate) fn sum(&self, a: u8, b: u8) -> u8

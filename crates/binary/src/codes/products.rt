@@ -24,6 +24,7 @@ impl Rule {
         let powers = b as u32;
         let mut product = 0;
         let mut shifted = a as u32;
+        // Stays (plain): the turn's power picks a bit, and a fold would carry the sum and the shifted code in a tuple.
         for i in 0..self.p {
             if (powers >> i) & 1 == 1 {
                 product ^= shifted;

@@ -15,6 +15,7 @@ pub(crate) struct Pairs {
 }
 
 impl Pairs {
+    // Stays (plain): the two parts are two formulas, each over the parts l, h and m, k of the two factors.
     // The low part of (l + h·y)·(m + k·y).
     fn low(&self, l: u8, h: u8, m: u8, k: u8) -> u8
         requires { (l < self.now.base.r) × ((h < self.now.base.r) × ((m < self.now.base.r) × (k < self.now.base.r))) }
