@@ -39,6 +39,7 @@ impl Shape {
 }
 
 // Decodes as many frames as there are costs, words and outcomes for, and tells how many; none if the field or the code is refused.
+// Stays (rule): the lent parts come from C one by one, and are handed on as they come.
 fn decoded_by<'a>(
     shape: &Shape,
     edges: &'a [Edge],

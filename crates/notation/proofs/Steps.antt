@@ -1,22 +1,11 @@
 -- One step over the pieces of a text.
-use Rattle.std.proofs.Common.{◌≡◌, ◌==◌, ℕ, ◌+◌, ◌-◌, ◌<◌, ◌≤◌, Bool, true, false, cond, eqb, ltb, Some, None, List, [], ◌∷◌, length, get_or, take, drop, sym, refl, ap, ◌∙◌, arith}
+use Rattle.std.proofs.Common.{◌≡◌, ◌==◌, ℕ, ◌+◌, ◌-◌, ◌<◌, ◌≤◌, Bool, true, false, cond, ltb, Some, None, List, [], ◌∷◌, length, take, drop, sym, refl, ap, ◌∙◌, arith}
 use Rattle.std.specs.List.{position, position_or_len}
 use Rattle.std.proofs.Math.Seq.{take-length}
 use Rattle.std.proofs.lemmas.Bool.{ltb-true, ltb-false}
 use Rattle.std.proofs.lemmas.List.{take_rest}
-use Rattle.std.proofs.lemmas.List.Recursion.{is_position_or_len}
-use Rattle.sheet.specs.Pieces.{cut, split, first}
-use Rattle.sheet.proofs.Splits.{first_is, first_within, split_some, split_rest, split_last}
-
-first_cut : (t : Bool) (b : ℕ) (ps : List (List ℕ)) → length (get_or (cut t b ps) 0 []) ≡ cond t 0 (1 + length (get_or ps 0 []))
-first_cut true b ps = refl
-first_cut false b [] = refl
-first_cut false b (p ∷ ps) = omega arith
-
--- the first piece ends where the first stop stands
-first_ends : (c : ℕ) (bs : List ℕ) → length (first c bs) ≡ position_or_len (λ b. b == c) bs
-unfolding split
-first_ends c = is_position_or_len (λ bs. length (first c bs)) (λ b. b == c) refl (λ b bs. first_cut (eqb b c) b (split c bs))
+use Rattle.sheet.specs.Pieces.{split, first}
+use Rattle.sheet.proofs.Splits.{first_is, first_size, first_within, split_some, split_rest, split_last}
 
 placed : (t : Bool) (l n : ℕ) → cond t (Some l) None ≡ Some n → (t ≡ true) × (l ≡ n)
 placed true l n e = (refl, cc)
@@ -30,7 +19,7 @@ unplaced false l e = refl
 pub step_on : (c n : ℕ) (bs : List ℕ) → Some n ≡ position (λ b. b == c) bs → split c bs ≡ take n bs ∷ split c (take (length bs - (n + 1)) (drop (n + 1) bs))
 step_on c n bs e =
     let at = placed (ltb (position_or_len (λ b. b == c) bs) (length bs)) (position_or_len (λ b. b == c) bs) n (sym e) in
-    let f : length (first c bs) ≡ n = first_ends c bs ∙ at.1 in
+    let f : length (first c bs) ≡ n = first_size c bs ∙ at.1 in
     let s : length (first c bs) < length bs = omega (arith, f, at.1, ltb-true _ _ at.0) in
     split_some c bs
     ∙ ap (λ p. p ∷ drop 1 (split c bs)) (sym (first_is c bs) ∙ ap (λ m. take m bs) f)
@@ -39,7 +28,7 @@ step_on c n bs e =
 -- there is none: the whole rest is the last piece
 pub step_end : (c : ℕ) (bs : List ℕ) → None ≡ position (λ b. b == c) bs → split c bs ≡ bs ∷ []
 step_end c bs e =
-    let s : length bs ≤ length (first c bs) = omega (arith, first_ends c bs, ltb-false _ _ (unplaced (ltb (position_or_len (λ b. b == c) bs) (length bs)) (position_or_len (λ b. b == c) bs) (sym e))) in
+    let s : length bs ≤ length (first c bs) = omega (arith, first_size c bs, ltb-false _ _ (unplaced (ltb (position_or_len (λ b. b == c) bs) (length bs)) (position_or_len (λ b. b == c) bs) (sym e))) in
     let all : length (first c bs) ≡ length bs = omega (arith, s, first_within c bs) in
     split_some c bs
     ∙ ap (λ p. p ∷ drop 1 (split c bs)) (sym (first_is c bs) ∙ ap (λ m. take m bs) all ∙ take-length bs)

@@ -7,7 +7,7 @@ use field::FieldRefusal;
 use frame::FrameRefusal;
 use joiner::JoinRefusal;
 use sampling::SampleRefusal;
-use sheet::fault::{Layer, SheetFault, Spot};
+use sheet::fault::SheetFault;
 use std::alloc::{AllocError, AllocFailed};
 use std::fmt::{self, Display};
 
@@ -25,23 +25,6 @@ pub enum Reply {
     Symbols(Vec<u8>),
 }
 
-fn write_fault<W: fmt::Write>(f: &mut fmt::Formatter<W>, fault: SheetFault) -> fmt::Result {
-    let number = fault.number();
-    let layer = match fault.layer() {
-        Layer::Text => "text",
-        Layer::Record => "record",
-        Layer::Code => "code",
-    };
-    match fault.spot() {
-        Spot::Text(place) => {
-            let line = place.line;
-            let byte = place.byte;
-            write!(f, "no\t{number}\t{layer}\t{line}\t{byte}")
-        }
-        Spot::Table(position) => write!(f, "no\t{number}\t{layer}\t{position}"),
-    }
-}
-
 // Its fields are parted by tabs and its numbers by spaces.
 impl Display for Reply {
     fn fmt<W: fmt::Write>(&self, f: &mut fmt::Formatter<W>) -> fmt::Result {
@@ -51,7 +34,7 @@ impl Display for Reply {
             Reply::Code(None) => write!(f, "none"),
             Reply::Joined(pairs, costs) => write!(f, "ok\t{pairs}\t{}", Listed(costs.as_slice())),
             Reply::Sheet(Ok(numbers)) => write!(f, "ok\t{numbers}"),
-            Reply::Sheet(Err(fault)) => write_fault(f, *fault),
+            Reply::Sheet(Err(fault)) => write!(f, "no\t{fault}"),
             Reply::Round(told) => write!(
                 f,
                 "ok\t{}\t{}\t{}",
@@ -125,6 +108,7 @@ impl<T: Drop> From<AllocFailed<T>> for Stop {
     }
 }
 
+// Stays (plain): one impl for all refusals would overlap those for memory above, so each refusal has its own.
 impl From<FieldRefusal> for Stop {
     fn from(refusal: FieldRefusal) -> Stop {
         Stop::Refused(Refusal::Field(refusal))

@@ -59,6 +59,7 @@ impl Tables {
     }
 }
 
+// Stays (plain): a `From` between two types of crate code could stand only there, and only this program asks for one.
 fn header_of(numbers: Numbers) -> Header {
     Header {
         order: numbers.order,
@@ -75,6 +76,7 @@ fn collect_lines<R: BufRead>(
     line: &mut Vec<u8>,
     text: &mut Vec<u8>,
 ) -> std::io::Result<()> {
+    // Stays (rule): a `while` would have to be proved to end, which of a stream cannot be, or be let wait forever.
     for _ in 0..u64::MAX {
         if !take_line(input, line)? {
             break;
