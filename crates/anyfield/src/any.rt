@@ -16,6 +16,7 @@ pub enum AnyField {
 }
 
 // Each answer is that of the field inside.
+// Stays (plain): one match a method; one match for all five would have to take the method as a closure over every kind of field.
 impl Field for AnyField {
     ghost meaning = { λ f. tables_of (made_of f) };
 

@@ -120,6 +120,7 @@ pub fn read_field(text: &[u8]) -> Result<AnyField, FieldFault>
     let (towers, name) = towers_in_front(&mut parts);
     let base = base_from(name, &mut parts)?;
     let field = towers_from(base, towers, &mut parts)?;
+    // Stays (plain): a part that is left is the fault here, and none is the answer, the other way round than an option.
     match parts.next() {
         Some(_) => Err(FieldFault::NotWritten),
         None => Ok(field),

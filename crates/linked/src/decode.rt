@@ -25,6 +25,7 @@ const REFUSED: Decoded = Decoded {
     concluded: false,
 };
 
+// Stays (plain): this and the next tell two numbers of the same header, each with its own bound.
 // The order q, which is 1 to 64.
 pub fn order(code: &Code) -> usize
     ensures order { result ≡ (view code.now).header.order }

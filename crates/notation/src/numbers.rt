@@ -11,6 +11,7 @@ pub fn number(text: &[u8], largest: u32) -> Option<u32>
     if text.is_empty() {
         return None;
     }
+    // Stays (plain): `try_fold` would hold the same two refusals in one closure.
     let mut n: u64 = 0;
     for b in text {
         if !b.is_ascii_digit() {

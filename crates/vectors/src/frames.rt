@@ -18,6 +18,7 @@ enum Slip {
     Running(RunningSlip),
 }
 
+// Stays (plain): the next three differ in the kind of slip and in how it is lent; one for all would take a closure that matches.
 fn loading(slip: &Option<Slip>) -> Result<&LoadingSlip, Stop> {
     match slip {
         Some(Slip::Loading(slip)) => Ok(slip),

@@ -124,6 +124,7 @@ pub fn call_of(heap: Global, line: &[u8]) -> Result<Call, Stop> {
     let parts = Parts::new(line, b'\t');
     let mut fields = Fields { heap, parts };
     let call = fields.call()?;
+    // Stays (plain): a field that is left is the fault here, and none is the answer, the other way round than an option.
     match fields.parts.next() {
         Some(_) => Err(Stop::Bad),
         None => Ok(call),
