@@ -13,20 +13,15 @@ mod tests;
 
 // The worked examples of the three kinds: the products 8·2 and 8·8 by the polynomial 19, then 3·3 and 4·4
 // in the tower on prime 3 where y·y = 2; and, as facts, what making a field of each kind refuses.
+#[tactic(auto, using(crate::proofs::Computed::examples))]
 pub fn worked() -> Option<(u8, u8, u8, u8)>
     ensures answer { result ≡ Some (3, 12, 2, 6) }
     ensures examples { Examples }
 {
-    let Ok(binary) = Binary::new(4, 19) else {
-        return None;
-    };
-    let Ok(base) = Prime::new(3) else {
-        return None;
-    };
+    let binary = Binary::new(4, 19).ok()?;
+    let base = Prime::new(3).ok()?;
     let mut tower = Tower::of_four();
-    if let Err(_) = make_tower(&base, 0, 2, &mut tower) {
-        return None;
-    }
+    make_tower(&base, 0, 2, &mut tower).ok()?;
     Some((
         binary.product(8, 2)?,
         binary.product(8, 8)?,
