@@ -61,13 +61,11 @@ impl Hand {
 
     // Takes a sheet's lines from the input; the tables of an accepted one replace those in use.
     fn take_sheet<R: BufRead>(&mut self, input: &mut R) -> Result<Reply, Stop> {
-        match take_sheet(self.heap, input)? {
-            Ok((numbers, tables)) => {
-                self.tables = Some(tables);
-                Ok(Reply::Sheet(Ok(numbers)))
-            }
-            Err(fault) => Ok(Reply::Sheet(Err(fault))),
-        }
+        let verdict = take_sheet(self.heap, input)?;
+        Ok(Reply::Sheet(verdict.map(|(numbers, tables)| {
+            self.tables = Some(tables);
+            numbers
+        })))
     }
 
     // A call on the code in use, and perhaps on the field and the frame.

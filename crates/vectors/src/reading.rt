@@ -36,10 +36,7 @@ impl<'a> Fields<'a> {
 
     // A size that a line may leave out at its end.
     fn last_size(&mut self) -> Result<Option<usize>, Stop> {
-        match self.parts.next() {
-            Some(text) => Ok(Some(size(text)?)),
-            None => Ok(None),
-        }
+        self.parts.next().map(size).transpose()
     }
 
     fn joining(&mut self) -> Result<Joining, Stop> {

@@ -28,23 +28,19 @@ impl Tables {
         };
         let mut edges = vec![in heap; edge; 1024]?;
         let mut entries = vec![in heap; Entry { column: 0, row: 0 }; 1024]?;
-        match read(text, edges.as_mut_slice(), entries.as_mut_slice()) {
-            Ok(numbers) => {
-                // An accepted sheet has as many entries as edges.
-                edges.truncate(numbers.edges);
-                entries.truncate(numbers.edges);
-                let header = header_of(numbers);
-                Ok(Ok((
-                    numbers,
-                    Tables {
-                        header,
-                        edges,
-                        entries,
-                    },
-                )))
-            }
-            Err(fault) => Ok(Err(fault)),
-        }
+        let verdict = read(text, edges.as_mut_slice(), entries.as_mut_slice());
+        Ok(verdict.map(|numbers| {
+            // An accepted sheet has as many entries as edges.
+            edges.truncate(numbers.edges);
+            entries.truncate(numbers.edges);
+            let header = numbers.header();
+            let tables = Tables {
+                header,
+                edges,
+                entries,
+            };
+            (numbers, tables)
+        }))
     }
 
     // Writes the code that the tables hold.
@@ -56,17 +52,6 @@ impl Tables {
             code,
         );
         admitted.map_err(|_| Stop::Lacks)
-    }
-}
-
-// Stays (plain): a `From` between two types of crate code could stand only there, and only this program asks for one.
-fn header_of(numbers: Numbers) -> Header {
-    Header {
-        order: numbers.order,
-        columns: numbers.columns,
-        rows: numbers.rows,
-        ceiling: numbers.ceiling,
-        limit: numbers.limit,
     }
 }
 
@@ -96,8 +81,6 @@ pub fn take_sheet<R: BufRead>(
 ) -> Result<Result<(Numbers, Tables), SheetFault>, Stop> {
     let mut line = Vec::new(heap);
     let mut text = Vec::new(heap);
-    match collect_lines(input, &mut line, &mut text) {
-        Ok(()) => Tables::read(heap, text.as_slice()),
-        Err(_) => Err(Stop::Memory),
-    }
+    collect_lines(input, &mut line, &mut text).map_err(|_| Stop::Memory)?;
+    Tables::read(heap, text.as_slice())
 }
