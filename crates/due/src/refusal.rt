@@ -5,21 +5,21 @@ ghost use Rattle.due.specs.Refusals.{number_of};
 #[derive(Clone, Copy, PartialEq, Eq, Debug)]
 pub enum FrameRefusal {
     // The field's order is not the code's.
-    Order,
+    Order = 18,
     // The slip's numbers are not the code's.
-    Numbers,
+    Numbers = 19,
     // The area has too few words.
-    Area,
+    Area = 20,
     // There is no such column.
-    Column,
+    Column = 21,
     // A channel or to-check cost exceeds the ceiling.
-    Cost,
+    Cost = 22,
     // All rounds are made.
-    Limit,
+    Limit = 23,
     // A row fails.
-    RowFails,
+    RowFails = 24,
     // A vector is too short or too long.
-    Length,
+    Length = 7,
 }
 
 impl FrameRefusal {
@@ -27,15 +27,6 @@ impl FrameRefusal {
     pub fn number(self) -> u8
         ensures answer { result ≡ number_of self }
     {
-        match self {
-            FrameRefusal::Order => 18,
-            FrameRefusal::Numbers => 19,
-            FrameRefusal::Area => 20,
-            FrameRefusal::Column => 21,
-            FrameRefusal::Cost => 22,
-            FrameRefusal::Limit => 23,
-            FrameRefusal::RowFails => 24,
-            FrameRefusal::Length => 7,
-        }
+        self as u8
     }
 }

@@ -5,17 +5,17 @@ ghost use Rattle.encoder.specs.Refusals.{number as number_of};
 #[derive(Clone, Copy, PartialEq, Eq, Debug)]
 pub enum CoderRefusal {
     // The field's order is not the code's.
-    Order,
+    Order = 18,
     // The scratch is below M × N bytes.
-    Scratch,
+    Scratch = 20,
     // The symbols are not N − M, or the word is not N long.
-    Length,
+    Length = 7,
     // A symbol is not below the order.
-    NotSymbol,
+    NotSymbol = 26,
     // A row of the word does not sum to 0.
-    RowFails,
+    RowFails = 24,
     // The rows depend on each other.
-    Dependent,
+    Dependent = 25,
 }
 
 impl CoderRefusal {
@@ -23,13 +23,6 @@ impl CoderRefusal {
     pub fn number(self) -> u8
         ensures answer { result ≡ number_of self }
     {
-        match self {
-            CoderRefusal::Order => 18,
-            CoderRefusal::Scratch => 20,
-            CoderRefusal::Length => 7,
-            CoderRefusal::NotSymbol => 26,
-            CoderRefusal::RowFails => 24,
-            CoderRefusal::Dependent => 25,
-        }
+        self as u8
     }
 }

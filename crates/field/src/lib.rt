@@ -44,27 +44,19 @@ pub trait Field {
 // Why no field is made; `number_of` of the specs gives each case its number.
 #[derive(Clone, Copy, PartialEq, Eq, Debug)]
 pub enum FieldRefusal {
-    Order,
-    NotPrime,
-    Degree,
-    Reducible,
-    NotCode,
-    Root,
+    Order = 1,
+    NotPrime = 2,
+    Degree = 3,
+    Reducible = 4,
+    NotCode = 5,
+    Root = 6,
 }
 
 impl FieldRefusal {
     // The number by which a report names the refusal.
-    // Stays (plain): `From` would hold the same match, and callers name what they ask for by this method.
     pub fn number(self) -> u8
         ensures answer { result ≡ number_of self }
     {
-        match self {
-            FieldRefusal::Order => 1,
-            FieldRefusal::NotPrime => 2,
-            FieldRefusal::Degree => 3,
-            FieldRefusal::Reducible => 4,
-            FieldRefusal::NotCode => 5,
-            FieldRefusal::Root => 6,
-        }
+        self as u8
     }
 }

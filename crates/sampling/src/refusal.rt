@@ -6,10 +6,10 @@ use crate::samples::Sample;
 /// Why samples become no costs: settings, ceiling or lengths out of range, or a sample that is not a number.
 #[derive(Clone, Copy, PartialEq, Eq, Debug)]
 pub enum SampleRefusal {
-    Receiver,
-    Ceiling,
-    Length,
-    NotNumber,
+    Receiver = 27,
+    Ceiling = 9,
+    Length = 7,
+    NotNumber = 28,
 }
 
 impl SampleRefusal {
@@ -17,12 +17,7 @@ impl SampleRefusal {
     pub fn number(self) -> u8
         ensures { result ≡ number self }
     {
-        match self {
-            SampleRefusal::Receiver => 27,
-            SampleRefusal::Ceiling => 9,
-            SampleRefusal::Length => 7,
-            SampleRefusal::NotNumber => 28,
-        }
+        self as u8
     }
 }
 
