@@ -94,9 +94,3 @@ module _ {h : Header} {es : List Edge} {ks : List Entry} (r : Rules h es ks) whe
 
   pub entry_at : (k : ℕ) (d : Entry) → k < length ks → EntryFits h (get_or ks k d)
   entry_at k d lt = r.entries_fit k _ (stands_at ks k d lt)
-
-  pub edges_at : (i k : ℕ) (d : Edge) → i < k → k < length es → EdgeBefore (get_or es i d) (get_or es k d)
-  edges_at i k d lt in' = r.edges_rise i k _ _ lt (stands_at es i d (omega arith)) (stands_at es k d in')
-
-  pub entries_at : (i k : ℕ) (d : Entry) → i < k → k < length ks → EntryBefore (get_or ks i d) (get_or ks k d)
-  entries_at i k d lt in' = r.entries_rise i k _ _ lt (stands_at ks i d (omega arith)) (stands_at ks k d in')

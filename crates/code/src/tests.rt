@@ -1,3 +1,5 @@
+ghost use Rattle.std.specs.Prelude.{◌<◌};
+
 use crate::code::Code;
 use crate::code::admit::{admit, fault_of};
 use crate::fault::CodeFault;
@@ -53,17 +55,21 @@ const ENTRIES: [Entry; 6] = [
     Entry { column: 3, row: 1 },
 ];
 
-// The fault of the example with another edge at i and another entry at k.
-fn changed(i: usize, edge: Edge, k: usize, entry: Entry) -> Option<CodeFault> {
+// The fault of the example with another edge, and with another entry.
+fn with_edge(i: usize, edge: Edge) -> Option<CodeFault>
+    requires { i < 6 }
+{
     let mut edges = EDGES;
+    edges[i] = edge;
+    fault_of(HEADER, &edges, &ENTRIES)
+}
+
+fn with_entry(k: usize, entry: Entry) -> Option<CodeFault>
+    requires { k < 6 }
+{
     let mut entries = ENTRIES;
-    if i < 6 {
-        edges[i] = edge;
-    }
-    if k < 6 {
-        entries[k] = entry;
-    }
-    fault_of(HEADER, &edges, &entries)
+    entries[k] = entry;
+    fault_of(HEADER, &EDGES, &entries)
 }
 
 #[test]
@@ -79,23 +85,21 @@ fn each_fault_has_its_place(rt: HostRuntime) {
         Some(CodeFault::OutOfRange(0))
     );
     assert_eq!(rt;
-        changed(
+        with_edge(
             4,
             Edge {
                 coefficient: 3,
                 ..edge
-            },
-            6,
-            entry,
+            }
         ),
         Some(CodeFault::OutOfRange(4))
     );
     assert_eq!(rt;
-        changed(6, edge, 3, Entry { column: 4, row: 0 }),
+        with_entry(3, Entry { column: 4, row: 0 }),
         Some(CodeFault::OutOfRange(9))
     );
-    assert_eq!(rt; changed(2, edge, 6, entry), Some(CodeFault::NotRising(2)));
-    assert_eq!(rt; changed(6, edge, 2, entry), Some(CodeFault::NotRising(8)));
+    assert_eq!(rt; with_edge(2, edge), Some(CodeFault::NotRising(2)));
+    assert_eq!(rt; with_entry(2, entry), Some(CodeFault::NotRising(8)));
     assert_eq!(rt;
         fault_of(HEADER, &EDGES[0..4], &ENTRIES),
         Some(CodeFault::Degree(1))
@@ -105,7 +109,7 @@ fn each_fault_has_its_place(rt: HostRuntime) {
         Some(CodeFault::Degree(5))
     );
     assert_eq!(rt;
-        changed(6, edge, 1, Entry { column: 0, row: 1 }),
+        with_entry(1, Entry { column: 0, row: 1 }),
         Some(CodeFault::Unmatched(1))
     );
     assert_eq!(rt;

@@ -21,10 +21,6 @@ at_code costs c = record { code = c; cost = get_or costs c 0 }
 pub below : (q : ℕ) (costs codes : List ℕ) → length codes ≤ 64 → All (λ c. c < q) codes → Below q (entries_of costs codes)
 below q costs codes few h = (omega (arith, length-map codes (at_code costs)), All-map (λ (e : Entry). e.code < q) (at_code costs) codes h)
 
-pub code_below : (q : ℕ) (entries : List Entry) (k : ℕ) (e : Entry) → Below q entries → slice_get entries k ≡ Some e → e.code < q
-code_below q entries k e h s =
-    subst (λ (x : Entry). x.code < q) (get_or_from_slice_get entries k e e s) (All-get_or (λ (x : Entry). x.code < q) entries k e (slice_get_within entries k e s) h.1)
-
 module _ (f : ℕ → Entry) (n : ℕ) where
   pub made_long : length (map f (range_with_len 0 n)) ≡ n
   made_long = length-map-range_with_len f 0 n

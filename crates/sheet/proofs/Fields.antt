@@ -11,9 +11,6 @@ pub record Stands (l : List ℕ) (i at : ℕ) : Type 0 where
   pub begin : at ≡ start i (split 9 l)
   pub inside : at ≤ length l
 
-pub stands_none : (l : List ℕ) → Stands l 0 0
-stands_none l = record { rest = refl; begin = refl; inside = omega arith }
-
 start_more : (i : ℕ) (ps : List (List ℕ)) → i < length ps → start (suc i) ps ≡ start i ps + length (get_or ps i []) + 1
 start_more i [] h = absurd (omega arith)
 start_more zero (p ∷ ps) h = omega arith

@@ -28,10 +28,6 @@ unfolding split
 glue_split c [] = refl
 glue_split c (b ∷ bs) = glue_cut (eqb b c) c b bs (split c bs) refl (split_some c bs) (glue_split c bs)
 
-pub behind_tabs : (fs : List (List ℕ)) → behind 9 fs ≡ tabbed fs
-behind_tabs [] = refl
-behind_tabs (f ∷ fs) = ap (λ r. 9 ∷ (f ++ r)) (behind_tabs fs)
-
 -- no byte of it is c
 abbrev pub Free : ℕ → List ℕ → Type 0
 Free c [] = Unit {0}

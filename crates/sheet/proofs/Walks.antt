@@ -113,22 +113,6 @@ pub record Reached (text : List ℕ) (h : Header) (start : Place) (es₀ : List 
   pub rest_entries : drop k ks ≡ drop k ks₀
   pub walked : tables text h start (length es₀) (length ks₀) ≡ onto (take w es) (take k ks) (walk (lines (drop p.byte text)) h d p (length es₀ - w) (length ks₀ - k))
 
-pub reached_none : (text : List ℕ) (h : Header) (start : Place) (es : List Edge) (ks : List Entry) → start.byte ≤ length text → start.line ≤ start.byte + 1 → Reached text h start es ks due.Edge start 0 0 es ks
-reached_none text h start es ks a b =
-    let x : length es ≡ length es - 0 = omega arith in
-    let y : length ks ≡ length ks - 0 = omega arith in
-    record {
-      byte = a;
-      few = b;
-      edges = omega arith;
-      entries = omega arith;
-      same_edges = refl;
-      same_entries = refl;
-      rest_edges = refl;
-      rest_entries = refl;
-      walked = λ i. walk (lines (drop start.byte text)) h due.Edge start (x i) (y i);
-    }
-
 -- a table whose first w places are filled
 pub kept_filled : {A : Type 0} (w : ℕ) (xs xs₀ : List A) → w ≤ length xs → drop w xs ≡ drop w xs₀ → xs ≡ filled (take w xs ++ []) xs₀
 kept_filled w xs xs₀ h e =

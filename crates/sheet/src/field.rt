@@ -13,12 +13,10 @@ use crate::token::{Kind, Part, Token};
 fn token<'a>(bytes: &'a [u8]) -> Token<'a>
     ensures { word result ≡ word_of bytes.now }
 {
-    if bytes.len() == 1 && bytes[0] == b'-' {
-        Token::Dash(bytes)
-    } else if bytes.len() == 1 && b'A' <= bytes[0] && bytes[0] <= b'Z' {
-        Token::Letter(bytes)
-    } else {
-        Token::Number(bytes)
+    match bytes {
+        [b'-'] => Token::Dash(bytes),
+        [b'A'..=b'Z'] => Token::Letter(bytes),
+        _ => Token::Number(bytes),
     }
 }
 

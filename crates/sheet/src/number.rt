@@ -24,10 +24,11 @@ fn value_of(bytes: &[u8]) -> u16
 fn is_written(bytes: &[u8]) -> bool
     ensures { result ≡ written bytes.now }
 {
-    if bytes.len() < 1 || bytes.len() > 4 || !all_digits(bytes) {
-        return false;
+    match bytes {
+        [] => false,
+        [b'0', _, ..] => false,
+        _ => bytes.len() <= 4 && all_digits(bytes),
     }
-    bytes[0] != b'0' || bytes.len() < 2
 }
 
 // The number that a field writes, if it is one as numbers are written.

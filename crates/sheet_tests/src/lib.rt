@@ -22,10 +22,9 @@ mod tests {
     fn fault_of(text: &[u8]) -> Result<SheetFault, Fail> {
         let mut edges = [UNTOUCHED; 6];
         let mut entries = [Entry { column: 7, row: 7 }; 6];
-        match read(text, &mut edges, &mut entries) {
-            Ok(_) => Err(Fail::new("the sheet is read")),
-            Err(fault) => Ok(fault),
-        }
+        read(text, &mut edges, &mut entries)
+            .err()
+            .ok_or_else(|| Fail::new("the sheet is read"))
     }
 
     fn refused(
@@ -74,8 +73,16 @@ mod tests {
                 limit: 20,
             }
         );
-        assert!(rt; edges[4].row == 1 && edges[4].column == 2 && edges[4].coefficient == 2);
-        assert!(rt; edges[6].row == 7 && entries[5].column == 3 && entries[5].row == 1);
+        assert_eq!(rt;
+            edges[4],
+            Edge {
+                row: 1,
+                column: 2,
+                coefficient: 2,
+            }
+        );
+        assert_eq!(rt; edges[6], UNTOUCHED);
+        assert_eq!(rt; entries[5], Entry { column: 3, row: 1 });
         Ok(())
     }
 
@@ -92,9 +99,16 @@ mod tests {
             answer,
             Err(SheetFault::OutOfRange(Place { line: 3, byte: 24 }))
         );
-        assert!(rt; edges[0].row == 0 && edges[0].column == 1 && edges[0].coefficient == 2);
-        assert!(rt; edges[1].row == 7 && edges[1].column == 7 && edges[1].coefficient == 7);
-        assert!(rt; entries[0].column == 7 && entries[0].row == 7);
+        assert_eq!(rt;
+            edges[0],
+            Edge {
+                row: 0,
+                column: 1,
+                coefficient: 2,
+            }
+        );
+        assert_eq!(rt; edges[1], UNTOUCHED);
+        assert_eq!(rt; entries[0], Entry { column: 7, row: 7 });
     }
 
     #[test]
@@ -176,7 +190,14 @@ mod tests {
             SheetFault::Full(Place { line: 3, byte: 21 }).layer(),
             Layer::Record
         );
-        assert!(rt; edges[0].row == 0 && edges[0].column == 0 && edges[0].coefficient == 1);
+        assert_eq!(rt;
+            edges[0],
+            Edge {
+                row: 0,
+                column: 0,
+                coefficient: 1,
+            }
+        );
     }
 
     #[test]
