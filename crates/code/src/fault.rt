@@ -16,6 +16,7 @@ pub enum CodeFault {
 
 impl CodeFault {
     // The fault's number, 12 to 15.
+    // Stays (rule): each case holds its place, and an enum whose cases hold something takes no numbers as values.
     pub fn number(self) -> u8
         ensures answer { result ≡ number_of self }
     {

@@ -18,6 +18,8 @@ pub struct Numbers {
 
 impl Numbers {
     // A header's numbers, with the number of edges.
+    // Stays (plain): the edges stand among the header's numbers, as they are printed, so the two types share no struct
+    // that one could hand to the other whole.
     pub fn new(header: Header, edges: usize) -> Numbers
         ensures answer { result ≡ numbers_of header edges }
     {

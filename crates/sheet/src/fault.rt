@@ -47,6 +47,7 @@ pub enum Spot {
 
 impl SheetFault {
     // The fault's number, 10 to 17.
+    // Stays (rule): each case holds its place, and an enum whose cases hold something takes no numbers as values.
     pub fn number(self) -> u8
         ensures answer { result ≡ number_of self }
     {
@@ -94,6 +95,7 @@ impl From<CodeFault> for SheetFault {
     }
 }
 
+// Stays (plain): no derive prints a case's name in small letters.
 impl fmt::Display for Layer {
     ghost output = { λ layer. Some (layer_text layer) };
 

@@ -99,6 +99,7 @@ impl Part<'_> {
     }
 
     // The same of a ceiling, where a dash says 31.
+    // Stays (plain): shared with the one above it would be a third function that takes what was read, for one line.
     pub fn ceiling(&self) -> Result<u16, SheetFault>
         ensures { result ≡ ceiling_of (seen self.now) }
     {
@@ -107,6 +108,7 @@ impl Part<'_> {
     }
 
     // 12 unless the field's number n is at least low and below limit.
+    // Stays (plain): a bool turns into a Result by no method of its own, and `then_some(()).ok_or(..)` hides the test.
     #[tactic(auto, unfolding(crate::specs::Lines::ranged))]
     pub fn ranged(&self, low: u16, limit: u16, n: u16) -> Result<(), SheetFault>
         ensures { result ≡ ranged (seen self.now) low limit n }

@@ -25,6 +25,8 @@ pub enum Record {
     End,
 }
 
+// How many fields a record of a kind has, its letter among them.
+// Stays (plain): as the cases' own values the numbers would be read by `as`, which does not say what they count.
 fn fields_of(kind: Kind) -> usize
     ensures { result ≡ arity kind }
 {
@@ -49,6 +51,7 @@ fn is_due(due: Due, kind: Kind) -> bool
 }
 
 // The kind of the line's record; 10 unless it is due and has its number of fields.
+// Stays (proof): with `filter` before `ok_or` there would be one refusal, but the answer was not proved to be the kind that is due.
 fn kind_due(line: Line, due: Due) -> Result<Kind, SheetFault>
     ensures { result ≡ kind_due due line.entry.place (fields line.entry.bytes.now) }
 {

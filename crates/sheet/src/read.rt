@@ -22,6 +22,7 @@ struct Filled {
 }
 
 // The end of the line that starts at a place; 16 if it has no line feed.
+// Stays (plain): `until` finds it, as it finds the end of a field, and so answers the text's end where none is found.
 fn line_end(text: &[u8], place: Place) -> Result<usize, SheetFault>
     requires { place.byte ≤ length text.now }
     ensures cases { MatchResult result (λ e. (e ≡ place.byte + length (first 10 (drop place.byte text.now))) × (e < length text.now)) (λ f. (f ≡ Ends place) × (length text.now ≤ place.byte + length (first 10 (drop place.byte text.now)))) }
@@ -48,6 +49,8 @@ fn below(place: Place, end: usize) -> Place
 }
 
 // Puts the record of a line into a table at its first free place; 17 if there is none.
+// Stays (proof): with `get_mut` and `ok_or` for the slot, neither the table after it is written nor the one kept at a refusal
+// was proved to be as the clause says.
 fn put<T: Copy>(table: &mut [T], free: usize, item: T, place: Place) -> Result<(), SheetFault>
     ensures cases { MatchResult result (λ x. (free < length table.old) × (table.new ≡ slice_set table.old free item)) (λ f. (f ≡ Full place) × (length table.old ≤ free) × (table.new ≡ table.old)) }
 {
@@ -57,6 +60,8 @@ fn put<T: Copy>(table: &mut [T], free: usize, item: T, place: Place) -> Result<(
     table[free] = item;
     Ok(())
 }
+
+// Stays (rule): the text and both tables are lent by the caller, and go through these functions as they are lent.
 
 // Fills the tables from the lines below the header.
 fn fill_tables(

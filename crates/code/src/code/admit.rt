@@ -46,6 +46,9 @@ impl<'a> Code<'a> {
     }
 }
 
+// Stays (plain): a header and two tables go through these functions side by side, since a struct of them that is not yet
+// admitted would be `Code` again without its rules.
+
 // The first of ranges, order, degrees and pairs that finds a fault tells it.
 fn first_fault(header: Header, edges: &[Edge], entries: &[Entry]) -> Option<CodeFault>
     ensures { result ≡ first_fault header edges.now entries.now }
