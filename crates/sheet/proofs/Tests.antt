@@ -1,6 +1,6 @@
 -- Tests one after another, and the kind of record that is due.
 use Rattle.std.proofs.Common.{◌≡◌, ℕ, ◌<◌, ◌≤◌, Bool, true, false, cond, ◌&&◌, eqb, ltb, leb, List, [], length, get_or, Some, None, Ok, Err, Option, Result, sym, refl, ap, ◌∙◌, arith}
-use Rattle.std.proofs.lemmas.Bool.{false≢true, cond-true, cond-false, and_from, and_left, and_right, and_parts, eq-eqb, ne_eqb, eqb-true, leb-true, ltb-true}
+use Rattle.std.proofs.lemmas.Bool.{false≢true, cond-true, and_from, and_parts, eq-eqb, eqb-true, leb-true, ltb-true}
 use Rattle.std.specs.Option.{ok_or}
 use Rattle.sheet.specs.declared.fault.Place.{Place}
 use Rattle.sheet.specs.declared.fault.SheetFault.{SheetFault}
@@ -34,22 +34,8 @@ pub written_or : (o : Option ℕ) (p : Place) → ok_or o (NotWritten p) ≡ or_
 written_or None p = refl
 written_or (Some n) p = refl
 
-pub due_some : (o : Option Kind) (k : Kind) (f : SheetFault) → Ok k ≡ ok_or o f → Some k ≡ o
-due_some None k f e = absurd (let z : ◌≡◌ {A = ℕ} 0 1 = cc in omega arith)
-due_some (Some j) k f e = ap Some cc
-
-pub due_err : (d : Due) (p : Place) (n : ℕ) (o q : Option Kind) (f : SheetFault) → Err f ≡ ok_or o (NotDue p) → o ≡ q → Err f ≡ or_not_due q d p n
-due_err d p n None q f e g = e ∙ ap (λ v. or_not_due v d p n) g
-due_err d p n (Some j) q f e g = absurd (let z : ◌≡◌ {A = ℕ} 0 1 = cc in omega arith)
-
 pub due_ok : (d : Due) (p : Place) (k : Kind) (n : ℕ) (o : Option Kind) → Some k ≡ o → is_due d k ≡ true → n ≡ arity k → Ok k ≡ or_not_due o d p n
 due_ok d p k n o e h g = sym (cond-true (is_due d k && eqb n (arity k)) (Ok k) (Err (NotDue p)) (and_from _ _ h (eq-eqb _ _ g))) ∙ ap (λ v. or_not_due v d p n) e
-
-pub due_not : (d : Due) (p : Place) (k : Kind) (n : ℕ) (o : Option Kind) → Some k ≡ o → is_due d k ≡ false → Err (NotDue p) ≡ or_not_due o d p n
-due_not d p k n o e h = sym (cond-false (is_due d k && eqb n (arity k)) (Ok k) (Err (NotDue p)) (and_left _ _ h)) ∙ ap (λ v. or_not_due v d p n) e
-
-pub due_count : (d : Due) (p : Place) (k : Kind) (n : ℕ) (o : Option Kind) → Some k ≡ o → (n ≡ arity k → ⊥) → Err (NotDue p) ≡ or_not_due o d p n
-due_count d p k n o e h = sym (cond-false (is_due d k && eqb n (arity k)) (Ok k) (Err (NotDue p)) (and_right _ _ (ne_eqb _ _ h))) ∙ ap (λ v. or_not_due v d p n) e
 
 -- what a kind that is due tells of the fields
 pub record Begins (d : Due) (k : Kind) (fs : List (List ℕ)) : Type 0 where

@@ -1,4 +1,4 @@
-ghost use Rattle.std.specs.Prelude.{◌≡◌, ◌≤◌, length, IfOk};
+ghost use Rattle.std.specs.Prelude.{◌≡◌, ◌≤◌, ◌&&◌, ◌==◌, length, IfOk};
 ghost use Rattle.sheet.specs.Pieces.{fields};
 ghost use Rattle.sheet.specs.Words.{seen};
 ghost use Rattle.sheet.specs.Lines.{arity, is_due, kind_due, header_of, edge_of, entry_of, header_from, edge_from, entry_from, header_line, record_line};
@@ -50,16 +50,21 @@ fn is_due(due: Due, kind: Kind) -> bool
     )
 }
 
+// Whether a kind is due, and the line has its number of fields.
+fn fits(line: Line, due: Due, kind: Kind) -> bool
+    ensures { result ≡ (is_due due kind && length (fields line.entry.bytes.now) == arity kind) }
+{
+    is_due(due, kind) && line.count() == fields_of(kind)
+}
+
 // The kind of the line's record; 10 unless it is due and has its number of fields.
-// Stays (proof): with `filter` before `ok_or` there would be one refusal, but the answer was not proved to be the kind that is due.
+#[tactic(auto, unfolding(crate::specs::Lines::kind_due))]
 fn kind_due(line: Line, due: Due) -> Result<Kind, SheetFault>
     ensures { result ≡ kind_due due line.entry.place (fields line.entry.bytes.now) }
 {
-    let kind = line.part(0).kind().ok_or(SheetFault::NotDue(line.place))?;
-    if is_due(due, kind) && line.count() == fields_of(kind) {
-        Ok(kind)
-    } else {
-        Err(SheetFault::NotDue(line.place))
+    match line.part(0).kind() {
+        Some(kind) if fits(line, due, kind) => Ok(kind),
+        _ => Err(SheetFault::NotDue(line.place)),
     }
 }
 
