@@ -65,10 +65,6 @@ module _ (t : Tables) (H : Matrix) (s w : List ℕ) (r : Answer) (x : CoderRefus
   }
 
 -- ---- a call that gets to the last test
-pub uses_last : (b : Bool) → uses_scratch (refuse b Dependent (Ok tt)) ≡ true
-uses_last true = refl
-uses_last false = refl
-
 module _ (t : Tables) (l : Lawful t) (H : Matrix) (E : Entries t.order H) (r : Answer) (answer : r ≡ refuse (dependent t H) Dependent (Ok tt)) where
   independent_then : r ≡ Ok tt → dependent t H ≡ false
   independent_then o = go (dependent t H) refl

@@ -1,5 +1,6 @@
 // What a field answers for codes that are known to be below its order.
 // Stays (rule): other crates have the like for themselves. To share it, it would have to be public, and no public function has a `requires`.
+// A type for codes below the order would have to name its field, and the bytes that are read and written are plain.
 ghost use Rattle.std.specs.Prelude.{◌≡◌, ◌<◌, ◌≢◌};
 
 use field::Field;
@@ -11,10 +12,7 @@ pub(crate) fn plus<F: Field>(field: &F, a: u8, b: u8) -> u8
     ensures is { result ≡ (F.Field.meaning field.now).sum a b }
     ensures code { result < (F.Field.meaning field.now).order }
 {
-    match field.sum(a, b) {
-        Some(c) => c,
-        None => unreachable(),
-    }
+    field.sum(a, b).unwrap()
 }
 
 // The product of two codes.
@@ -24,10 +22,7 @@ pub(crate) fn times<F: Field>(field: &F, a: u8, b: u8) -> u8
     ensures is { result ≡ (F.Field.meaning field.now).product a b }
     ensures code { result < (F.Field.meaning field.now).order }
 {
-    match field.product(a, b) {
-        Some(c) => c,
-        None => unreachable(),
-    }
+    field.product(a, b).unwrap()
 }
 
 // The code whose sum with `a` is 0.
@@ -36,10 +31,7 @@ pub(crate) fn opposite_of<F: Field>(field: &F, a: u8) -> u8
     ensures is { (F.Field.meaning field.now).sum a result ≡ 0 }
     ensures code { result < (F.Field.meaning field.now).order }
 {
-    match field.opposite(a) {
-        Some(b) => b,
-        None => unreachable(),
-    }
+    field.opposite(a).unwrap()
 }
 
 // The code whose product with `a` is 1.
@@ -49,8 +41,5 @@ pub(crate) fn inverse_of<F: Field>(field: &F, a: u8) -> u8
     ensures is { (F.Field.meaning field.now).product a result ≡ 1 }
     ensures code { result < (F.Field.meaning field.now).order }
 {
-    match field.inverse(a) {
-        Some(b) => b,
-        None => unreachable(),
-    }
+    field.inverse(a).unwrap()
 }

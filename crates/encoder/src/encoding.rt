@@ -17,6 +17,7 @@ use code::code::Code;
 use field::Field;
 
 // Encodes once the opening tests are passed.
+// Stays (rule): field, code and scratch are lent by the caller, each by a parameter of its own, to encode as to extract.
 fn encode_opened<F: Field>(
     field: &F,
     code: &Code,

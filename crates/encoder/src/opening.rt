@@ -39,10 +39,7 @@ pub(crate) fn open<F: Field>(
     if scratch < header.rows as usize * header.columns as usize {
         return Err(CoderRefusal::Scratch);
     }
-    if symbols != information_length(code) {
-        return Err(CoderRefusal::Length);
-    }
-    if word != header.columns as usize {
+    if symbols != information_length(code) || word != header.columns as usize {
         return Err(CoderRefusal::Length);
     }
     if !are_codes(field.order(), given) {

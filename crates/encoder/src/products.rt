@@ -4,7 +4,7 @@ ghost use Rattle.encoder.specs.Bytes.{Products};
 
 use crate::codes;
 use crate::elimination::Elimination;
-use field::Field;
+use field::{Field, fill};
 
 // The product of any two codes.
 pub(crate) fn multiply_all<F: Field>(field: &F) -> [u8; 4096]
@@ -12,9 +12,9 @@ pub(crate) fn multiply_all<F: Field>(field: &F) -> [u8; 4096]
 {
     let mut products = [0; 4096];
     let q = field.order() as usize;
-    for x in 0..q * q {
-        products[x] = codes::times(field, (x / q) as u8, (x % q) as u8);
-    }
+    fill(&mut products[..q * q], |k| {
+        field.product((k / q) as u8, (k % q) as u8)
+    });
     products
 }
 

@@ -68,12 +68,7 @@ impl<'f, F: Field> Elimination<'f, F> {
         requires column { c < self.now.columns }
         ensures { MatchOption result ((k : ℕ) → k < self.now.rows → slice_index_or owners.now k None ≡ None → slice_index matrix.now (k * self.now.columns + c) ≡ 0) (λ i. (i < self.now.rows) × Idle matrix.now self.now.columns owners.now c i) }
     {
-        for (r, owner) in owners.iter().enumerate() {
-            if owner.is_none() && matrix[self.place(r, c)] != 0 {
-                return Some(r);
-            }
-        }
-        None
+        (0..self.rows).find(|r| matrix[self.place(*r, c)] != 0 && owners[*r].is_none())
     }
 
     // From the last column down: a row that owns no column and has an entry there becomes the owner, and all others are cleared of it.

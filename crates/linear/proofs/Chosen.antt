@@ -74,7 +74,3 @@ encoded_is t H s w e =
     let some : some_word t.order H.columns (carrying t H s) ≡ true = some_word_true t.order H.columns (carrying t H s) w e.codeword.codes (yes_carrying t H s w e.codeword e.carries) in
     let f = first_word_is t.order H.columns (carrying t H s) some in
     sym (e.alone (the_word t H s) (carrying_word t H s (the_word t H s) f.codes f.passes) (carrying_carries t H s (the_word t H s) f.passes))
-
-pub encoded_cond : (t : Tables) (H : Matrix) (s w before : List ℕ) (b : Bool) → (b ≡ true → Encoded t H s w) → (b ≡ false → w ≡ before) → w ≡ cond b (the_word t H s) before
-encoded_cond t H s w before true e k = encoded_is t H s w (e refl)
-encoded_cond t H s w before false e k = k refl

@@ -14,7 +14,6 @@ pub mod Chosen
 pub mod Reduce
 pub mod Filled
 pub mod Clearing
-pub mod Least
 pub mod Placing
 pub mod Whole
 pub mod Picked

@@ -2,7 +2,7 @@
 use Rattle.std.proofs.Common.{◌≡◌, ℕ, zero, suc, ◌+◌, ◌<◌, Bool, true, false, cond, not, ◌⊎◌, List, length, get_or, set, Some, None, Option, sym, refl, ap, ◌∙◌, subst, ap₂, inl, inr, add-one, arith, length-set, get_or-set_other, get_or-set_same, eq-eqb, eqb-true}
 use native.Mathlib.Decide.{ℕ_discrete}
 use Rattle.field.specs.Tables.{Tables, Lawful}
-use Rattle.field.proofs.Tested.{some_below_at, some_below_true, some_below_none}
+use Rattle.field.proofs.Tested.{some_below_at, some_below_true}
 use Rattle.linear.specs.Columns.{combined}
 use Rattle.linear.specs.Count.{count}
 use Rattle.linear.specs.Elimination.{Owned, Reduced}
@@ -28,10 +28,6 @@ module _ (owner : List (Option ℕ)) (m c : ℕ) where
   pub owned_yes : (r : ℕ) → r < m → get_or owner r None ≡ Some c → owned_by owner m c ≡ true
   unfolding owned_by
   owned_yes r h e = some_below_true (λ r. owns (get_or owner r None) c) m r h (owns_yes (get_or owner r None) c e)
-
-  pub owned_no : ((r : ℕ) → r < m → get_or owner r None ≡ Some c → ⊥) → owned_by owner m c ≡ false
-  unfolding owned_by
-  owned_no n = some_below_none (λ r. owns (get_or owner r None) c) m (λ r h e. n r h (owns_is (get_or owner r None) c e))
 
   pub owned_row : owned_by owner m c ≡ true → (r : ℕ) × (r < m) × (get_or owner r None ≡ Some c)
   unfolding owned_by

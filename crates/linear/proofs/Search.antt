@@ -3,7 +3,7 @@ use Rattle.std.proofs.Common.{◌≡◌, ℕ, zero, suc, ◌<◌, Bool, true, fa
 use native.Mathlib.Decide.{ℕ_discrete}
 use Rattle.field.specs.Every.{every_below, some_below}
 use Rattle.field.specs.Tables.{Tables}
-use Rattle.field.proofs.Tested.{some_below_at, some_below_true, some_below_none, every_below_at, and_true}
+use Rattle.field.proofs.Tested.{some_below_at, some_below_true, every_below_at, and_true}
 use Rattle.linear.specs.Columns.{combined, higher_sum}
 use Rattle.linear.specs.Laws.{ColumnTold, RowsTold}
 use Rattle.linear.specs.Rows.{rows_sum, gives_zero, dependent, row_fails}
@@ -80,10 +80,6 @@ module _ (t : Tables) (H : Matrix) (w : List ℕ) where
   pub fails_yes : (r : ℕ) → r < H.rows → ¬ (row_sum t H w r ≡ 0) → row_fails t H w ≡ true
   unfolding failing
   fails_yes r h d = some_below_true failing H.rows r h (ap not (eqb_not (row_sum t H w r) 0 d))
-
-  pub fails_no : ((r : ℕ) → r < H.rows → row_sum t H w r ≡ 0) → row_fails t H w ≡ false
-  unfolding failing
-  fails_no h = some_below_none failing H.rows (λ r l e. no_both e (ap not (eq-eqb (row_sum t H w r) 0 (h r l))))
 
   pub fails_at : row_fails t H w ≡ true → (r : ℕ) × (r < H.rows) × (row_sum t H w r ≡ 0 → ⊥)
   unfolding failing

@@ -18,10 +18,6 @@ pub low_is : (b : Bool) (n : ℕ) → cond b n 0 ≡ cond (beq false b) 0 n
 low_is true n = refl
 low_is false n = refl
 
-pub high_is : (b : Bool) (n : ℕ) → cond b 0 n ≡ cond (beq true b) 0 n
-high_is true n = refl
-high_is false n = refl
-
 -- ---- bounds
 
 level_of_le : (s : Settings) (c : ℕ) (x : Sample) → level_of s c x ≤ c

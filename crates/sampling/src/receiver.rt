@@ -14,6 +14,7 @@ pub struct Settings {
 }
 
 // Settings that hold, and a ceiling in range.
+// Stays (plain): the law of sampling is a promise of the public call alone, and the tests that each call makes first hand it on; it says nothing of a receiver.
 #[derive(Clone, Copy)]
 pub(crate) struct Receiver {
     pub(crate) settings: Settings,
@@ -64,11 +65,5 @@ fn are_settled(settings: Settings) -> bool
     ensures answer { result ≡ settled settings }
     ensures law { SamplingLaw }
 {
-    if !is_step(settings.step) {
-        return false;
-    }
-    if !settings.scale.is_finite() {
-        return false;
-    }
-    settings.step <= settings.scale
+    is_step(settings.step) && settings.scale.is_finite() && settings.step <= settings.scale
 }

@@ -14,6 +14,7 @@ pub enum SampleRefusal {
 
 impl SampleRefusal {
     /// The number by which a report names the refusal.
+    // Stays (plain): `From` would hold the same match, and callers name what they ask for by this method.
     pub fn number(self) -> u8
         ensures { result ≡ number self }
     {
@@ -25,10 +26,7 @@ impl SampleRefusal {
 pub(crate) fn are_matched(samples: usize, costs: usize) -> bool
     ensures { result ≡ is_matched samples costs }
 {
-    if samples < 1 || samples > 6 {
-        return false;
-    }
-    costs == 1 << samples
+    (1..=6).contains(&samples) && costs == 1 << samples
 }
 
 fn is_not_number(sample: Sample) -> bool

@@ -90,11 +90,9 @@ fn six_bits(rt: HostRuntime) -> Result<(), Fail> {
         &[on, off, off, on, off, on],
         &mut costs,
     )?;
-    let mut code: u8 = 0;
-    for cost in costs {
-        assert_eq!(rt; cost % 1023, 0);
-        assert_eq!(rt; u32::from(cost / 1023), (code ^ 41).count_ones());
-        code = code.wrapping_add(1);
+    for (code, cost) in costs.iter().enumerate() {
+        assert_eq!(rt; *cost % 1023, 0);
+        assert_eq!(rt; u32::from(*cost / 1023), (code ^ 41).count_ones());
     }
     Ok(())
 }

@@ -61,6 +61,7 @@ fn lengths(rt: HostRuntime) {
 // Not a number in each place of the longest symbol.
 #[test]
 fn not_numbers(rt: HostRuntime) {
+    // Stays (plain): the place is what is tried, and each try has samples of its own; no list is gone over.
     for i in 0..6usize {
         let mut samples = [Sample::Measured(1.0); 6];
         samples[i] = Sample::Measured(f32::NAN);

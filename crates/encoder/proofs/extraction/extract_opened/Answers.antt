@@ -28,9 +28,6 @@ eliminate-requires g c = record {
 pub row_fails-requires : goal.row_fails-requires
 row_fails-requires g c = record { listed = listed (g.F.Field.meaning c.args.field.now) c.args.code.now (length c.args.symbols.now) (length c.args.scratch.now) (length c.args.word.now) c.args.word.now c.requires c.header.result.rows (length c.args.word.now) c.edges-edges.result.now (ap (λ (h : Header). h.rows) c.header.ensures.answer) c.requires.long c.edges-edges.ensures.answer; codes = c.requires.codes }
 
-pub returns-then-row_fails-clause-answer : goal.returns-then-row_fails-clause-answer
-returns-then-row_fails-clause-answer g c = sym (refused _ _ _ (ap (λ (H : Matrix). row_fails (g.F.Field.meaning c.args.field.now) H c.args.word.now) (sym (matrix (g.F.Field.meaning c.args.field.now) c.args.code.now (length c.args.symbols.now) (length c.args.scratch.now) (length c.args.word.now) c.args.word.now c.requires c.header.result.rows (length c.args.word.now) c.edges-edges.result.now (ap (λ (h : Header). h.rows) c.header.ensures.answer) c.requires.long c.edges-edges.ensures.answer)) ∙ sym c.row_fails.ensures ∙ c.if-row_fails.true))
-
 pub returns-then-depend : goal.returns-then-depend
 returns-then-depend g c = record {
   answer = sym (passed _ _ _ (ap (λ (H : Matrix). row_fails (g.F.Field.meaning c.args.field.now) H c.args.word.now) (sym (matrix (g.F.Field.meaning c.args.field.now) c.args.code.now (length c.args.symbols.now) (length c.args.scratch.now) (length c.args.word.now) c.args.word.now c.requires c.header.result.rows (length c.args.word.now) c.edges-edges.result.now (ap (λ (h : Header). h.rows) c.header.ensures.answer) c.requires.long c.edges-edges.ensures.answer)) ∙ sym c.row_fails.ensures ∙ c.if-row_fails.false) ∙ refused _ _ _ ((ap (λ f. dependent (g.F.Field.meaning f) (check_matrix c.args.code.now)) (sym c.new-elimination.ensures.field)) ∙ depends T c.args.code.now (length c.args.symbols.now) (length c.args.scratch.now) (length c.args.word.now) c.args.word.now past c.new-elimination.result.rows c.new-elimination.result.columns c.edges-edges.result.now c.new-elimination.ensures.rows c.new-elimination.ensures.columns c.edges-edges.ensures.answer (g.met.F.Field.lawful c.new-elimination.result.field.now) c.eliminate.new.matrix c.eliminate.new.owners (c.eliminate.auto.owners ∙ fresh_long c.new-elimination.result.rows c.new-elimination.result.rows_high) c.eliminate.ensures (sym c.depend.ensures ∙ c.if-depend.true)));

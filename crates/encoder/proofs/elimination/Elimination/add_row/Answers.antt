@@ -1,11 +1,8 @@
-use Rattle.std.proofs.Common.{◌≡◌, ℕ, ◌+◌, ◌<◌, get_or, set, sym, ap, ap₂, ◌∙◌, subst, arith}
+use Rattle.std.proofs.Common.{ℕ, ◌+◌, ◌<◌, get_or, set, sym, ap, ap₂, ◌∙◌, subst, arith}
 use Rattle.linear.specs.Elimination.{Added}
 use Rattle.encoder.specs.Bytes.{laid}
-use Rattle.encoder.proofs.Places.{added_none, source_kept, target_kept, added_more}
+use Rattle.encoder.proofs.Places.{source_kept, target_kept, added_more}
 use Rattle.encoder.proofs.elimination.Elimination.add_row.Goals as goal
-
-pub loop-j-init : goal.loop-j-init
-loop-j-init g c = added_none _ _ _ _ _
 
 pub bounds-multiples-matrix : goal.bounds-multiples-matrix
 bounds-multiples-matrix g c = (c.multiples-multiples.ensures (get_or c.loop-j.matrix (c.start-from.result + c.loop-j.j) 0)
@@ -34,8 +31,3 @@ loop-j-preserved g c =
     code : get_or c.loop-j.matrix (c.start-from.result + c.loop-j.j) 0 < (g.F.Field.meaning c.args.self.now.field.now).order
     code = (subst (λ (p : ℕ). get_or c.loop-j.matrix (p + c.loop-j.j) 0 < (g.F.Field.meaning c.args.self.now.field.now).order) (sym c.start-from.ensures.is)
         (subst (λ (x : ℕ). x < (g.F.Field.meaning c.args.self.now.field.now).order) (sym (source_kept (g.F.Field.meaning c.args.self.now.field.now) c.args.matrix.now c.loop-j.matrix c.args.self.now.rows c.args.self.now.columns c.args.target c.args.source c.args.factor c.loop-j.j (let r = c.requires.codes.room in omega arith) c.requires.target c.requires.source c.requires.apart c.loop-j-test.true c.loop-j.invariant)) (c.requires.codes.entries.below c.args.source c.loop-j.j c.requires.source c.loop-j-test.true)))
-
-pub returns : goal.returns
-returns g c =
-    let e : c.loop-j.j ≡ c.args.self.now.columns = omega arith in
-    subst (λ (k : ℕ). Added (g.F.Field.meaning c.args.self.now.field.now) (laid c.args.matrix.now c.args.self.now.rows c.args.self.now.columns) (laid c.loop-j.matrix c.args.self.now.rows c.args.self.now.columns) c.args.target c.args.source c.args.factor k) e c.loop-j.invariant

@@ -1,23 +1,9 @@
-use Rattle.std.proofs.Common.{ℕ, ◌+◌, ◌*◌, get_or, sym, refl, ap, ◌∙◌, subst, inl, arith}
+use Rattle.std.proofs.Common.{◌+◌, ◌*◌, get_or, sym, subst, arith}
 use Rattle.linear.specs.Elimination.{ClearedTo}
-use Rattle.linear.proofs.Clearing.{cleared_none, cleared_skip, cleared_one, cleared_all}
+use Rattle.linear.proofs.Clearing.{cleared_skip, cleared_one}
 use Rattle.encoder.specs.Bytes.{laid}
 use Rattle.encoder.proofs.elimination.Elimination.clear.Goals as goal
 use Rattle.encoder.proofs.elimination.Elimination.clear.Goals.{then-r-i, else-r-i}
-
-pub loop-r-init : goal.loop-r-init
-loop-r-init g c = cleared_none _ _ _ _ c.requires.codes.entries
-
-pub clear_row-requires : goal.clear_row-requires
-clear_row-requires g c = record {
-  codes = record { room = omega arith; entries = c.loop-r.invariant.entries };
-  row = c.loop-r-test.true;
-  source = c.requires.row;
-  apart = c.if-r-i.true;
-  column = c.requires.column;
-  code = c.inverse_of-inverse.ensures.code;
-  inverse = ap (λ (x : ℕ). (g.F.Field.meaning c.args.self.now.field.now).product x c.inverse_of-inverse.result) (c.loop-r.invariant.rest c.args.i c.args.c c.requires.row c.requires.column (inl refl) ∙ ap (λ (p : ℕ). get_or c.args.matrix.now p 0) (sym c.place.ensures.is)) ∙ c.inverse_of-inverse.ensures.is;
-}
 
 pub loop-r-preserved : goal.loop-r-preserved
 loop-r-preserved g c =
@@ -30,6 +16,3 @@ loop-r-preserved g c =
           (cleared_skip (g.F.Field.meaning c.args.self.now.field.now) c.args.self.now.rows c.args.self.now.columns (λ x j. get_or c.args.matrix.now (x * c.args.self.now.columns + j) 0) (λ x j. get_or c.loop-r.matrix (x * c.args.self.now.columns + j) 0)
           c.args.i c.args.c c.loop-r.r c.loop-r.invariant (c.loop-r.r + 1) (omega arith) w.if-r-i.false)
     ]
-
-pub returns : goal.returns
-returns g c = record { codes = record { room = omega arith; entries = c.loop-r.invariant.entries }; cleared = cleared_all _ _ _ _ _ c.loop-r.r c.requires.row (omega arith) c.loop-r.invariant }

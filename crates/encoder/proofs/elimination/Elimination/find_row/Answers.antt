@@ -1,11 +1,22 @@
-use Rattle.std.proofs.Common.{◌≡◌, ℕ, ◌+◌, ◌*◌, not, get_or, is_some, None, sym, ap, ◌∙◌, below_more}
-use Rattle.linear.proofs.Tests.{no_both}
+use Rattle.std.proofs.Common.{◌≡◌, ℕ, ◌+◌, ◌*◌, ◌<◌, ◌≤◌, get_or, None, Some, Option, MatchOption, arith, rules, tests}
+use Rattle.std.proofs.lemmas.Iterator.{first_from_Range}
+use Rattle.encoder.specs.Bytes.{Idle}
 use Rattle.encoder.proofs.elimination.Elimination.find_row.Goals as goal
-use Rattle.encoder.proofs.elimination.Elimination.find_row.Goals.{else-is_none-via-then-is_none+else-matrix-place-ne0, else-is_none-via-else-is_none}
 
-pub loop-r-preserved : goal.loop-r-preserved
-loop-r-preserved g c = below_more (λ k. get_or c.args.owners.now k None ≡ None → get_or c.args.matrix.now (k * c.args.self.now.columns + c.args.c) 0 ≡ 0) c.loop-r.r c.loop-r.invariant
-    (elim c.else-is_none.branch [
-      | else-is_none-via-then-is_none+else-matrix-place-ne0 w ↦ (λ e. ap (λ (p : ℕ). get_or c.args.matrix.now p 0) (sym w.place.ensures.is) ∙ w.if-matrix-place-ne0.false)
-      | else-is_none-via-else-is_none w ↦ (λ e. absurd (no_both (c.is_none.ensures ∙ ap not w.if-is_none.false) (ap is_some e)))
-    ])
+pub returns : goal.returns
+returns g c =
+    ends c.find.result (first_from_Range _ _ _ c.find.result idle busy c.find.ensures.ran (λ x q k. search (rules, tests)) (λ x q k. search (rules, tests)))
+  where
+    n : ℕ
+    n = c.args.self.now.columns
+
+    idle : ℕ → Type 0
+    idle r = (get_or c.args.owners.now r None ≡ None) × ¬ (get_or c.args.matrix.now (r * n + c.args.c) 0 ≡ 0)
+
+    busy : ℕ → Type 0
+    busy r = get_or c.args.owners.now r None ≡ None → get_or c.args.matrix.now (r * n + c.args.c) 0 ≡ 0
+
+    ends : (o : Option ℕ) → MatchOption o ((r : ℕ) → 0 ≤ r → r < c.args.self.now.rows → busy r) (λ r. (0 ≤ r) × (r < c.args.self.now.rows) × idle r × ((k : ℕ) → 0 ≤ k → k < r → busy k))
+        → MatchOption o ((r : ℕ) → r < c.args.self.now.rows → busy r) (λ r. (r < c.args.self.now.rows) × Idle c.args.matrix.now n c.args.owners.now c.args.c r)
+    ends None h = λ r l. h r (omega arith) l
+    ends (Some r) h = (h.1, record { free = h.2.0; entry = h.2.1 })

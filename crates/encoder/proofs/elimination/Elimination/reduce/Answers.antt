@@ -1,11 +1,8 @@
-use Rattle.std.proofs.Common.{List, Option, sym, ◌≡◌, ℕ, ◌+◌, ◌-◌, ◌*◌, get_or, subst, arith}
+use Rattle.std.proofs.Common.{List, Option, sym, ℕ, ◌+◌, ◌-◌, ◌*◌, get_or, subst, arith}
 use Rattle.linear.specs.Elimination.{Reduced}
-use Rattle.linear.proofs.Reduce.{begun, found, none_found, one_less}
+use Rattle.linear.proofs.Reduce.{found, none_found, one_less}
 use Rattle.encoder.specs.Bytes.{laid}
 use Rattle.encoder.proofs.elimination.Elimination.reduce.Goals as goal
-
-pub loop-c-init : goal.loop-c-init
-loop-c-init g c = begun (g.F.Field.meaning c.args.self.now.field.now) (laid c.args.matrix.now c.args.self.now.rows c.args.self.now.columns) c.args.owners.now c.requires.codes.entries c.requires.fresh
 
 pub loop-c-preserved-in-Some : goal.loop-c-preserved-in-Some
 loop-c-preserved-in-Some g c =
@@ -22,8 +19,3 @@ loop-c-preserved g c =
     none_found (g.F.Field.meaning c.args.self.now.field.now) (laid c.args.matrix.now c.args.self.now.rows c.args.self.now.columns) (laid c.loop-c.matrix c.args.self.now.rows c.args.self.now.columns) (c.loop-c.c - 1) c.loop-c.owners
     (one_less (g.F.Field.meaning c.args.self.now.field.now) (laid c.args.matrix.now c.args.self.now.rows c.args.self.now.columns) (laid c.loop-c.matrix c.args.self.now.rows c.args.self.now.columns) c.loop-c.owners c.loop-c.c c.loop-c-test.true c.loop-c.invariant)
     c.in_default.ensures
-
-pub returns : goal.returns
-returns g c =
-    let e : c.loop-c.c ≡ 0 = omega arith in
-    subst (λ (x : ℕ). Reduced (g.F.Field.meaning c.args.self.now.field.now) (laid c.args.matrix.now c.args.self.now.rows c.args.self.now.columns) (laid c.loop-c.matrix c.args.self.now.rows c.args.self.now.columns) x c.loop-c.owners) e c.loop-c.invariant

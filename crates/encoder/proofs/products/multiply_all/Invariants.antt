@@ -1,6 +1,0 @@
-use Rattle.std.proofs.Common.{◌≡◌, length}
-use Rattle.encoder.specs.Bytes.{ProductsTo}
-use Rattle.encoder.proofs.products.multiply_all.Given as goal
-
-abbrev pub invariant-loop-x : goal.invariant-loop-x
-invariant-loop-x g l = (length l.products ≡ 4096) × ProductsTo (g.F.Field.meaning l.field) l.products l.x
