@@ -41,8 +41,7 @@ pub fn gather<F: Field>(field: &F, k: u8, v: &[u16], out: &mut [u16])
     requires { (k < (F.Field.meaning field.now).order) × ((length v.now ≡ (F.Field.meaning field.now).order) × (length out.old ≡ (F.Field.meaning field.now).order)) }
     ensures { out.new ≡ gathered (F.Field.meaning field.now) k v.now }
 {
-    // Stays (proof): of what is written through `iter_mut` a proof knows no element afterwards.
-    for c in 0..field.order() {
-        out[c as usize] = v[times(field, k, c) as usize];
+    for (c, word) in out.iter_mut().enumerate() {
+        *word = v[times(field, k, c as u8) as usize];
     }
 }

@@ -78,7 +78,8 @@ pub fn settle(area: &mut [u16], q: usize, n: usize)
     requires q { (1 ≤ q) × ((q ≤ 64) × ((n ≤ 256) × (n + n ≤ blocks q area.old))) }
     ensures { Filled q n n (λ c. lowered q 65535 (block q (n + c) area.old) (replicate q 0)) area.old area.new }
 {
-    // Stays (proof): of what is written through `chunks_exact_mut` a proof knows no element afterwards.
+    // Stays (proof): over `chunks_exact_mut`, nothing but the number of words is known once the loop has ended, so that no block of
+    // the area can be told then.
     for c in 0..n {
         reduce_block(area, q, n + c);
     }

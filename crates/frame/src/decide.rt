@@ -25,8 +25,7 @@ pub fn decide(area: &[u16], q: usize, n: usize, word: &mut [u8])
     requires room { ((n + n) * q ≤ length area.now) × (length word.old ≡ n) }
     ensures { word.new ≡ tabled n (symbol_at q n area.now) }
 {
-    // Stays (proof): of what is written through `iter_mut` a proof knows no element afterwards.
-    for c in 0..n {
-        word[c] = lowest(block_at(area, q, n + c));
+    for (c, symbol) in word.iter_mut().enumerate() {
+        *symbol = lowest(block_at(area, q, n + c));
     }
 }

@@ -31,9 +31,8 @@ pub fn reduce(values: &mut [u16], ceiling: u16)
     ensures { values.new ≡ tabled (length values.old) (store_at values.old ceiling) }
 {
     let m = least(values);
-    // Stays (proof): of what is written through `iter_mut` a proof knows no element afterwards.
-    for a in 0..values.len() {
-        values[a] = reduced(values[a], m, ceiling);
+    for value in values.iter_mut() {
+        *value = reduced(*value, m, ceiling);
     }
 }
 
