@@ -1,7 +1,7 @@
 ghost use Rattle.std.specs.Prelude.{◌≡◌, ℕ, ◌+◌, ◌-◌, ◌*◌, ◌<◌, ◌≤◌, length};
 ghost use Rattle.frame.specs.Blocks.{block, blocks};
-ghost use Rattle.joiner.specs.Costs.{Low};
-ghost use Rattle.frame.specs.Row.{coefficient_at, row_vectors, RowDone};
+ghost use Rattle.frame.specs.Joins.{HasScratch};
+ghost use Rattle.frame.specs.Row.{Invertible, LowBlocks, coefficient_at, row_vectors, RowDone};
 ghost use Rattle.tree.specs.Rows.{row_pairs};
 
 use crate::codes::inverted;
@@ -14,10 +14,10 @@ impl<'a, F: Field, J: Joiner> Joins<'a, F, J> {
     // Writes the from-check costs of a row's edges, to the blocks from `from` on, out of their to-check costs in the blocks from `to`
     // on, by way of the 36 scratch blocks.
     pub fn row(&self, edges: &[Edge], area: &mut [u16], to: usize, from: usize) -> u32
-        requires room { (self.now.scratch + 36 ≤ blocks (F.Field.meaning self.now.field.now).order area.old) × ((to + length edges.now ≤ self.now.scratch) × (from + length edges.now ≤ self.now.scratch)) }
+        requires room { (HasScratch (F.Field.meaning self.now.field.now) self.now.scratch area.old) × ((to + length edges.now ≤ self.now.scratch) × (from + length edges.now ≤ self.now.scratch)) }
         requires edges { (2 ≤ length edges.now) × (length edges.now ≤ 16) }
-        requires coefficients { (i : ℕ) → i < length edges.now → (0 < coefficient_at edges.now i) × (coefficient_at edges.now i < (F.Field.meaning self.now.field.now).order) }
-        requires low { (i : ℕ) → i < length edges.now → Low self.now.ceiling (block (F.Field.meaning self.now.field.now).order (to + i) area.old) }
+        requires coefficients { Invertible (F.Field.meaning self.now.field.now) edges.now }
+        requires low { LowBlocks (F.Field.meaning self.now.field.now).order self.now.ceiling to (length edges.now) area.old }
         ensures pairs { result ≡ row_pairs (J.Joiner.pairs self.now.joiner.now) (F.Field.meaning self.now.field.now) self.now.ceiling (row_vectors (F.Field.meaning self.now.field.now) (coefficient_at edges.now) to area.old) (length edges.now - 1) }
         ensures few { result ≤ 196608 }
         ensures area { RowDone (F.Field.meaning self.now.field.now) (coefficient_at edges.now) to from self.now.scratch (length edges.now - 1) area.old area.new }

@@ -1,7 +1,7 @@
 ghost use Rattle.std.specs.Prelude.{◌≡◌, ℕ, suc, ◌+◌, ◌-◌, ◌*◌, ◌<◌, ◌≤◌, length, ◌≢◌, not, ◌==◌, position};
 ghost use Rattle.frame.specs.Blocks.{block, blocks};
-ghost use Rattle.joiner.specs.Costs.{Low};
-ghost use Rattle.frame.specs.Row.{coefficient_at};
+ghost use Rattle.frame.specs.Joins.{HasScratch};
+ghost use Rattle.frame.specs.Row.{Invertible, LowBlocks};
 ghost use Rattle.frame.specs.AllRows.{starts, rows_pairs, RowsTo};
 ghost use Rattle.frame.specs.Columns.{row_at};
 
@@ -35,12 +35,12 @@ impl<'a, F: Field, J: Joiner> Joins<'a, F, J> {
     // Writes the from-check costs of all edges, row by row.
     pub fn rows(&self, edges: &[Edge], area: &mut [u16], to: usize, from: usize, m: u16) -> u32
         requires count { m ≤ 128 }
-        requires room { (self.now.scratch + 36 ≤ blocks (F.Field.meaning self.now.field.now).order area.old) × ((to + length edges.now ≤ from) × (from + length edges.now ≤ self.now.scratch)) }
+        requires room { (HasScratch (F.Field.meaning self.now.field.now) self.now.scratch area.old) × ((to + length edges.now ≤ from) × (from + length edges.now ≤ self.now.scratch)) }
         requires rising { (x y : ℕ) → x ≤ y → y < length edges.now → row_at edges.now x ≤ row_at edges.now y }
         requires rows { (x : ℕ) → x < length edges.now → row_at edges.now x < m }
         requires wide { (r : ℕ) → r < m → (starts edges.now r + 2 ≤ starts edges.now (suc r)) × (starts edges.now (suc r) ≤ starts edges.now r + 16) }
-        requires coefficients { (i : ℕ) → i < length edges.now → (0 < coefficient_at edges.now i) × (coefficient_at edges.now i < (F.Field.meaning self.now.field.now).order) }
-        requires low { (i : ℕ) → i < length edges.now → Low self.now.ceiling (block (F.Field.meaning self.now.field.now).order (to + i) area.old) }
+        requires coefficients { Invertible (F.Field.meaning self.now.field.now) edges.now }
+        requires low { LowBlocks (F.Field.meaning self.now.field.now).order self.now.ceiling to (length edges.now) area.old }
         ensures pairs { result ≡ rows_pairs (J.Joiner.pairs self.now.joiner.now) (F.Field.meaning self.now.field.now) self.now.ceiling edges.now to area.old m }
         ensures area { RowsTo (F.Field.meaning self.now.field.now) edges.now to from self.now.scratch m area.old area.new }
     {

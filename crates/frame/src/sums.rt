@@ -1,7 +1,7 @@
 ghost use Rattle.std.specs.Prelude.{◌≡◌, ℕ, ◌+◌, ◌-◌, ◌*◌, ◌<◌, ◌≤◌, length, nat_eq, slice_index};
 ghost use Rattle.tree.specs.Over.{count};
 ghost use Rattle.frame.specs.Blocks.{block, blocks, put, Filled};
-ghost use Rattle.joiner.specs.Costs.{Low};
+ghost use Rattle.frame.specs.Row.{LowBlocks};
 ghost use Rattle.frame.specs.Columns.{added, word, entry_at, Rising, HasAt, SummedTo};
 
 use crate::blocks::copied;
@@ -38,7 +38,7 @@ pub fn sums(edges: &[Edge], entries: &[Entry], area: &mut [u16], q: usize, n: us
     requires rising { Rising edges.now }
     requires entries { (k : ℕ) → k < length entries.now → ((entry_at entries.now k).column < n) × HasAt edges.now (entry_at entries.now k).row (entry_at entries.now k).column }
     requires few { (c : ℕ) → c < n → count (length entries.now) (λ k. nat_eq (entry_at entries.now k).column c) ≤ 8 }
-    requires low { (((c : ℕ) → c < n → Low 1023 (block q (n + c) area.old))) × (((x : ℕ) → x < length edges.now → Low 1023 (block q (n + n + length edges.now + x) area.old))) }
+    requires low { (LowBlocks q 1023 n n area.old) × LowBlocks q 1023 (n + n + length edges.now) (length edges.now) area.old }
     ensures { SummedTo q n n (n + n + length edges.now) (length entries.now) edges.now entries.now area.old area.new }
 {
     let from = n + n + edges.len();

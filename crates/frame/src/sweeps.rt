@@ -1,5 +1,6 @@
 ghost use Rattle.std.specs.Prelude.{◌≡◌, ℕ, ◌+◌, ◌-◌, ◌*◌, ◌<◌, ◌≤◌, length};
 ghost use Rattle.frame.specs.Blocks.{block, blocks, «from_on», Filled};
+ghost use Rattle.frame.specs.Joins.{HasScratch};
 ghost use Rattle.joiner.specs.Costs.{Low};
 ghost use Rattle.tree.specs.Rows.{back, forth, back_pairs, forth_pairs};
 
@@ -12,7 +13,7 @@ use joiner::Joiner;
 impl<'a, F: Field, J: Joiner> Joins<'a, F, J> {
     // Joins the vectors in the scratch blocks, from the last one down to the second, into those from the 16th on.
     pub fn backward(&self, area: &mut [u16], last: usize) -> u32
-        requires room { self.now.scratch + 36 ≤ blocks (F.Field.meaning self.now.field.now).order area.old }
+        requires room { HasScratch (F.Field.meaning self.now.field.now) self.now.scratch area.old }
         requires last { (1 ≤ last) × (last < 16) }
         requires begun { block (F.Field.meaning self.now.field.now).order (self.now.scratch + 16) area.old ≡ block (F.Field.meaning self.now.field.now).order (self.now.scratch + last) area.old }
         requires low { (i : ℕ) → i ≤ last → Low self.now.ceiling (block (F.Field.meaning self.now.field.now).order (self.now.scratch + i) area.old) }
@@ -30,7 +31,7 @@ impl<'a, F: Field, J: Joiner> Joins<'a, F, J> {
 
     // Joins the vectors in the scratch blocks, from the first one up to the last but one, in their place.
     pub fn forward(&self, area: &mut [u16], last: usize) -> u32
-        requires room { self.now.scratch + 36 ≤ blocks (F.Field.meaning self.now.field.now).order area.old }
+        requires room { HasScratch (F.Field.meaning self.now.field.now) self.now.scratch area.old }
         requires last { (1 ≤ last) × (last < 16) }
         requires low { (i : ℕ) → i ≤ last → Low self.now.ceiling (block (F.Field.meaning self.now.field.now).order (self.now.scratch + i) area.old) }
         ensures pairs { result ≡ forth_pairs (J.Joiner.pairs self.now.joiner.now) (F.Field.meaning self.now.field.now) self.now.ceiling («from_on» (F.Field.meaning self.now.field.now).order self.now.scratch area.old) (last - 1) }
