@@ -6,6 +6,14 @@ ghost use Rattle.joiner.specs.Costs.{Low};
 use crate::codes::times;
 use field::Field;
 
+// The sizes of a code: q words in a block, and n columns.
+#[derive(Clone, Copy)]
+pub struct Sizes {
+    pub q: usize,
+    pub n: usize,
+    ghost fits: { (1 ≤ q) × ((q ≤ 64) × (n ≤ 256)) },
+}
+
 // Stays (plain): a struct that holds the lent words beside q would ask of each function that is given it, and of each loop, two more
 // clauses: that q and the words that it lends are still the same.
 // Stays (rule): a join's vectors are copied out into local arrays, since what is made of them is written to the same area.

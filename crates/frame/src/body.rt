@@ -3,6 +3,7 @@ ghost use Rattle.tree.specs.Rows.{round_pairs};
 ghost use Rattle.tree.specs.Frame.{parts_of};
 ghost use Rattle.frame.specs.Round.{code_of, Ready, Moved};
 
+use crate::blocks::Sizes;
 use crate::costs::{begin, costs, settle};
 use crate::step::Joins;
 use crate::sums::sums;
@@ -25,9 +26,11 @@ pub fn body<F: Field, J: Joiner>(
     ensures pairs { result ≡ round_pairs (J.Joiner.pairs joiner.now) (F.Field.meaning field.now) (code_of header edges.now entries.now) (parts_of (code_of header edges.now entries.now) area.old).to_check }
     ensures area { Moved (F.Field.meaning field.now) (code_of header edges.now entries.now) (J.Joiner.pairs joiner.now) area.old area.new }
 {
-    let q = header.order as usize;
-    let n = header.columns as usize;
-    let to = n + n;
+    let sizes = Sizes {
+        q: header.order as usize,
+        n: header.columns as usize,
+    };
+    let to = sizes.n + sizes.n;
     let from = to + edges.len();
     let joins = Joins {
         field,
@@ -36,9 +39,9 @@ pub fn body<F: Field, J: Joiner>(
         scratch: from + edges.len(),
     };
     let pairs = joins.rows(edges, area, to, from, header.rows);
-    begin(area, q, n);
-    sums(edges, entries, area, q, n);
-    costs(edges, header.ceiling, area, q, n);
-    settle(area, q, n);
+    begin(area, sizes);
+    sums(edges, entries, area, sizes);
+    costs(edges, header.ceiling, area, sizes);
+    settle(area, sizes);
     pairs
 }

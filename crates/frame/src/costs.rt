@@ -2,7 +2,7 @@ ghost use Rattle.std.specs.Prelude.{◌≡◌, ℕ, pred, ◌+◌, ◌-◌, ◌*
 ghost use Rattle.frame.specs.Blocks.{block, blocks, put, Filled};
 ghost use Rattle.frame.specs.Columns.{column_at, lowered};
 
-use crate::blocks::{block_at, put_back};
+use crate::blocks::{Sizes, block_at, put_back};
 use crate::words::reduce;
 use code::table::Edge;
 use cost::without;
@@ -19,13 +19,13 @@ fn lower(v: &[u16], w: &[u16], ceiling: u16, out: &mut [u16])
 }
 
 // Block k becomes what `lower` makes of blocks i and j.
-fn lower_block(area: &mut [u16], q: usize, i: usize, j: usize, k: usize, ceiling: u16)
-    requires q { (1 ≤ q) × (q ≤ 64) }
-    requires i { i < blocks q area.old }
-    requires j { j < blocks q area.old }
-    requires k { k < blocks q area.old }
-    ensures { area.new ≡ put q k (lowered q ceiling (block q i area.old) (block q j area.old)) area.old }
+fn lower_block(area: &mut [u16], sizes: Sizes, i: usize, j: usize, k: usize, ceiling: u16)
+    requires i { i < blocks sizes.q area.old }
+    requires j { j < blocks sizes.q area.old }
+    requires k { k < blocks sizes.q area.old }
+    ensures { area.new ≡ put sizes.q k (lowered sizes.q ceiling (block sizes.q i area.old) (block sizes.q j area.old)) area.old }
 {
+    let q = sizes.q;
     let mut out = [0u16; 64];
     let out = &mut out[0..q];
     lower(block_at(area, q, i), block_at(area, q, j), ceiling, out);
@@ -33,54 +33,61 @@ fn lower_block(area: &mut [u16], q: usize, i: usize, j: usize, k: usize, ceiling
 }
 
 // Writes each edge's to-check costs, from the sums of its column.
-pub fn costs(edges: &[Edge], ceiling: u16, area: &mut [u16], q: usize, n: usize)
-    requires q { (1 ≤ q) × (q ≤ 64) }
-    requires room { (n + n + length edges.now + length edges.now ≤ blocks q area.old) × ((n ≤ 256) × (length edges.now ≤ 1024)) }
-    requires edges { (x : ℕ) → x < length edges.now → column_at edges.now x < n }
-    ensures { Filled q (n + n) (length edges.now) (λ x. lowered q ceiling (block q (n + column_at edges.now x) area.old) (block q (n + n + length edges.now + x) area.old)) area.old area.new }
+pub fn costs(edges: &[Edge], ceiling: u16, area: &mut [u16], sizes: Sizes)
+    requires room { (sizes.n + sizes.n + length edges.now + length edges.now ≤ blocks sizes.q area.old) × (length edges.now ≤ 1024) }
+    requires edges { (x : ℕ) → x < length edges.now → column_at edges.now x < sizes.n }
+    ensures { Filled sizes.q (sizes.n + sizes.n) (length edges.now) (λ x. lowered sizes.q ceiling (block sizes.q (sizes.n + column_at edges.now x) area.old) (block sizes.q (sizes.n + sizes.n + length edges.now + x) area.old)) area.old area.new }
 {
-    let to = n + n;
+    let to = sizes.n + sizes.n;
     let from = to + edges.len();
     for (e, edge) in edges.iter().enumerate() {
-        lower_block(area, q, n + edge.column as usize, from + e, to + e, ceiling);
+        lower_block(
+            area,
+            sizes,
+            sizes.n + edge.column as usize,
+            from + e,
+            to + e,
+            ceiling,
+        );
     }
 }
 
 // Copies block i to block j.
-pub fn copy_block(area: &mut [u16], q: usize, i: usize, j: usize)
-    requires q { q ≤ 64 }
-    requires i { i < blocks q area.old }
-    requires j { j < blocks q area.old }
-    ensures { area.new ≡ put q j (block q i area.old) area.old }
+pub fn copy_block(area: &mut [u16], sizes: Sizes, i: usize, j: usize)
+    requires i { i < blocks sizes.q area.old }
+    requires j { j < blocks sizes.q area.old }
+    ensures { area.new ≡ put sizes.q j (block sizes.q i area.old) area.old }
 {
+    let q = sizes.q;
     area.copy_within(i * q..i * q + q, j * q);
 }
 
 // Copies the n first blocks to the n blocks after them.
-pub fn begin(area: &mut [u16], q: usize, n: usize)
-    requires q { (q ≤ 64) × ((n ≤ 256) × (n + n ≤ blocks q area.old)) }
-    ensures { Filled q n n (λ c. block q c area.old) area.old area.new }
+pub fn begin(area: &mut [u16], sizes: Sizes)
+    requires { sizes.n + sizes.n ≤ blocks sizes.q area.old }
+    ensures { Filled sizes.q sizes.n sizes.n (λ c. block sizes.q c area.old) area.old area.new }
 {
-    area.copy_within(..n * q, n * q);
+    let words = sizes.n * sizes.q;
+    area.copy_within(..words, words);
 }
 
 // Block j becomes itself less its least word.
-fn reduce_block(area: &mut [u16], q: usize, j: usize)
-    requires q { (1 ≤ q) × (q ≤ 64) }
-    requires j { j < blocks q area.old }
-    ensures { area.new ≡ put q j (lowered q 65535 (block q j area.old) (replicate q 0)) area.old }
+fn reduce_block(area: &mut [u16], sizes: Sizes, j: usize)
+    requires j { j < blocks sizes.q area.old }
+    ensures { area.new ≡ put sizes.q j (lowered sizes.q 65535 (block sizes.q j area.old) (replicate sizes.q 0)) area.old }
 {
+    let q = sizes.q;
     reduce(&mut area[j * q..j * q + q], u16::MAX);
 }
 
 // Lessens each of the n blocks from n on by its least word.
-pub fn settle(area: &mut [u16], q: usize, n: usize)
-    requires q { (1 ≤ q) × ((q ≤ 64) × ((n ≤ 256) × (n + n ≤ blocks q area.old))) }
-    ensures { Filled q n n (λ c. lowered q 65535 (block q (n + c) area.old) (replicate q 0)) area.old area.new }
+pub fn settle(area: &mut [u16], sizes: Sizes)
+    requires { sizes.n + sizes.n ≤ blocks sizes.q area.old }
+    ensures { Filled sizes.q sizes.n sizes.n (λ c. lowered sizes.q 65535 (block sizes.q (sizes.n + c) area.old) (replicate sizes.q 0)) area.old area.new }
 {
     // Stays (proof): over `chunks_exact_mut`, nothing but the number of words is known once the loop has ended, so that no block of
     // the area can be told then.
-    for c in 0..n {
-        reduce_block(area, q, n + c);
+    for c in 0..sizes.n {
+        reduce_block(area, sizes, sizes.n + c);
     }
 }

@@ -3,7 +3,7 @@ ghost use Rattle.tree.specs.Over.{lowest_to};
 ghost use Rattle.tree.specs.Rows.{tabled};
 ghost use Rattle.frame.specs.Words.{symbol_at};
 
-use crate::blocks::block_at;
+use crate::blocks::{Sizes, block_at};
 use cost::nearer;
 
 // The lowest code of least distance.
@@ -19,13 +19,12 @@ pub fn lowest(distances: &[u16]) -> u8
     best as u8
 }
 
-// Writes the decided symbol of each of the n columns.
-pub fn decide(area: &[u16], q: usize, n: usize, word: &mut [u8])
-    requires q { (1 ≤ q) × ((q ≤ 64) × (n ≤ 256)) }
-    requires room { ((n + n) * q ≤ length area.now) × (length word.old ≡ n) }
-    ensures { word.new ≡ tabled n (symbol_at q n area.now) }
+// Writes the decided symbol of each column.
+pub fn decide(area: &[u16], sizes: Sizes, word: &mut [u8])
+    requires room { ((sizes.n + sizes.n) * sizes.q ≤ length area.now) × (length word.old ≡ sizes.n) }
+    ensures { word.new ≡ tabled sizes.n (symbol_at sizes.q sizes.n area.now) }
 {
     for (c, symbol) in word.iter_mut().enumerate() {
-        *symbol = lowest(block_at(area, q, n + c));
+        *symbol = lowest(block_at(area, sizes.q, sizes.n + c));
     }
 }

@@ -8,6 +8,7 @@ ghost use Rattle.frame.specs.Slips.{started, start_back, loading_of, running_of}
 ghost use Rattle.due.specs.Numbers.{numbers_in};
 ghost use Rattle.frame.specs.Calls.{verdict_of, AreaAfter};
 
+use crate::blocks::Sizes;
 use crate::costs::{begin, copy_block};
 use crate::lows::channel_low;
 use crate::slip::{LoadingSlip, NotStarted, RunningSlip};
@@ -26,14 +27,13 @@ fn grant(code: &Code, numbers: Numbers, area: &[u16]) -> Result<(), FrameRefusal
 }
 
 // Copies each edge's column of channel costs to its to-check costs.
-fn to_checks(edges: &[Edge], area: &mut [u16], q: usize, n: usize)
-    requires q { (q ≤ 64) × ((n ≤ 256) × (length edges.now ≤ 1024)) }
-    requires room { n + n + length edges.now ≤ blocks q area.old }
-    requires edges { (x : ℕ) → x < length edges.now → column_at edges.now x < n }
-    ensures { Filled q (n + n) (length edges.now) (λ x. block q (column_at edges.now x) area.old) area.old area.new }
+fn to_checks(edges: &[Edge], area: &mut [u16], sizes: Sizes)
+    requires room { (sizes.n + sizes.n + length edges.now ≤ blocks sizes.q area.old) × (length edges.now ≤ 1024) }
+    requires edges { (x : ℕ) → x < length edges.now → column_at edges.now x < sizes.n }
+    ensures { Filled sizes.q (sizes.n + sizes.n) (length edges.now) (λ x. block sizes.q (column_at edges.now x) area.old) area.old area.new }
 {
     for (e, edge) in edges.iter().enumerate() {
-        copy_block(area, q, edge.column as usize, n + n + e);
+        copy_block(area, sizes, edge.column as usize, sizes.n + sizes.n + e);
     }
 }
 
@@ -53,9 +53,11 @@ pub fn start(code: &Code, slip: LoadingSlip, area: &mut [u16]) -> Result<Running
 {
     let numbers = slip.numbers;
     grant(code, numbers, area).map_err(|refusal| NotStarted { refusal, slip })?;
-    let q = numbers.order as usize;
-    let n = numbers.columns as usize;
-    begin(area, q, n);
-    to_checks(code.edges(), area, q, n);
+    let sizes = Sizes {
+        q: numbers.order as usize,
+        n: numbers.columns as usize,
+    };
+    begin(area, sizes);
+    to_checks(code.edges(), area, sizes);
     Ok(begun(numbers))
 }

@@ -3,6 +3,7 @@ ghost use Rattle.code.specs.Views.{view};
 ghost use Rattle.tree.specs.Frame.{area_words, parts_of, decided, word_of};
 ghost use Rattle.tree.specs.Frame.{failing as failing_rows};
 
+use crate::blocks::Sizes;
 use crate::checks::failing;
 use crate::decide::decide;
 use code::code::Code;
@@ -17,7 +18,11 @@ fn failing_with<F: Field>(field: &F, code: &Code, area: &[u16], word: &mut [u8])
     ensures word { word.new ≡ word_of (view code.now) (parts_of (view code.now) area.now) }
 {
     let header = code.header();
-    decide(area, header.order as usize, header.columns as usize, word);
+    let sizes = Sizes {
+        q: header.order as usize,
+        n: header.columns as usize,
+    };
+    decide(area, sizes, word);
     failing(field, code.edges(), word, header.rows)
 }
 

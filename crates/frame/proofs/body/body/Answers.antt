@@ -36,7 +36,7 @@ begin-requires g c =
     let f = A F L K o a0 R in let b = room_blocks F L K o a0 R in
     let N = c.args.header.columns in
     let z = same_blocks c.args.header.order a0 c.rows-pairs.new.area c.rows-pairs.auto.area (N + N) (omega arith) in
-    record { q = (f.order_high, (f.columns_high, z)) }
+    z
 
 pub sums-requires : goal.sums-requires
 unfolding arms
@@ -50,8 +50,7 @@ sums-requires g c =
     let S1 = c.rows-pairs.ensures.area in let S2 = c.begin.ensures in
     let z = same_blocks c.args.header.order a0 a2 (c.begin.auto.area ∙ c.rows-pairs.auto.area) (N + N + W + W) (omega arith) in
     record {
-      q = f.order_high;
-      room = (z, (f.columns_high, f.width_high));
+      room = (z, f.width_high);
       rising = f.rising;
       entries = λ k h. let w = entry_edge K R.admitted k h in
           (subst (λ n. n < N) w.2 (f.column_below (tree.edge_of K k) w.0), (tree.edge_of K k, record { within = w.0; row = w.1; column = w.2 }));
@@ -70,8 +69,7 @@ costs-requires g c =
     let S1 = c.rows-pairs.ensures.area in let S2 = c.begin.ensures in let S3 = c.sums.ensures in
     let z = same_blocks c.args.header.order a0 a3 (c.sums.auto.area ∙ c.begin.auto.area ∙ c.rows-pairs.auto.area) (N + N + W + W) (omega arith) in
     record {
-      q = (omega (arith, f.order_low), f.order_high);
-      room = (z, (f.columns_high, f.width_high));
+      room = (z, f.width_high);
       edges = f.column_below;
     }
 
@@ -83,7 +81,7 @@ settle-requires g c =
     let f = A F L K o a0 R in let b = room_blocks F L K o a0 R in
     let N = c.args.header.columns in
     let z = same_blocks c.args.header.order a0 c.costs.new.area (c.costs.auto.area ∙ c.sums.auto.area ∙ c.begin.auto.area ∙ c.rows-pairs.auto.area) (N + N) (omega arith) in
-    record { q = (omega (arith, f.order_low), (f.order_high, (f.columns_high, z))) }
+    z
 
 pub returns : goal.returns
 returns g c =

@@ -4,7 +4,7 @@ use Rattle.frame.proofs.Turns.{front_fits, filled_front}
 use Rattle.frame.proofs.costs.begin.Goals as goal
 
 pub copy_within-requires-clause-dest_in_bounds : goal.copy_within-requires-clause-dest_in_bounds
-copy_within-requires-clause-dest_in_bounds c = let h = front_fits c.args.q c.args.n (length c.args.area.now) c.requires.q.1.1 in omega arith
+copy_within-requires-clause-dest_in_bounds c = let h = front_fits c.args.sizes.q c.args.sizes.n (length c.args.area.now) c.requires in omega arith
 
 pub returns : goal.returns
-returns c = filled_front c.args.q c.args.n c.args.area.now c.copy_within.new.self c.requires.q.1.1 (c.copy_within.ensures.after ∙ front_copied (c.args.n * c.args.q) c.args.area.now)
+returns c = filled_front c.args.sizes.q c.args.sizes.n c.args.area.now c.copy_within.new.self c.requires (c.copy_within.ensures.after ∙ front_copied (c.args.sizes.n * c.args.sizes.q) c.args.area.now)

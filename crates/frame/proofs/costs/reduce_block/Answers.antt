@@ -10,7 +10,7 @@ use Rattle.frame.proofs.costs.reduce_block.Goals as goal
 pub returns : goal.returns
 unfolding put
 returns c =
-    let q = c.args.q in let j = c.args.j in let area = c.args.area.now in
+    let q = c.args.sizes.q in let j = c.args.j in let area = c.args.area.now in
     let p = part_is q j area in
     let long = ap length p ∙ length_block q j area (room q j (length area) c.requires.j) in
     let e : c.reduce.new.values ≡ lowered q 65535 (block q j area) (replicate {A = ℕ} q 0) = c.reduce.ensures

@@ -18,6 +18,12 @@ any = record { order = 0; sum = λ a b. 0; product = λ a b. 0 }
 pub returns-in_err-map_err-clause-area : goal.returns-in_err-map_err-clause-area
 returns-in_err-map_err-clause-area c = λ F. area_err F (view c.args.code.now) _ _ c.args.area.now _ _ _ _ (c.grant.ensures F) c.map_err.ensures.variant c.in_err-map_err.was
 
+pub invariant_of-sizes : goal.invariant_of-sizes
+invariant_of-sizes c =
+    let K = view c.args.code.now in let R = rules_of _ _ _ c.args.code.now.admitted in
+    let p = start_passed any K c.args.area.now _ _ (before_ok any K _ _ _ _ _ _ _ (c.grant.ensures any) c.map_err.ensures.variant c.in_ok-map_err.was) in
+    record { fits = (subst (λ n. 1 ≤ n.order) (sym p.0) (omega (arith, R.header.order.0)), (subst (λ n. n.order ≤ 64) (sym p.0) R.header.order.1, subst (λ n. n.columns ≤ 256) (sym p.0) R.header.columns.1)) }
+
 pub begin-requires : goal.begin-requires
 begin-requires c =
     let K = view c.args.code.now in let R = rules_of _ _ _ c.args.code.now.admitted in
@@ -25,7 +31,7 @@ begin-requires c =
     let p = start_passed any K before _ _ (before_ok any K _ _ _ _ _ _ _ (c.grant.ensures any) c.map_err.ensures.variant c.in_ok-map_err.was) in
     let b = room_blocks K R before before p.1 refl in
     let r : K.header.columns + K.header.columns ≤ blocks K.header.order before = omega arith in
-    record { q = (subst (λ n. n.order ≤ 64) (sym p.0) R.header.order.1, (subst (λ n. n.columns ≤ 256) (sym p.0) R.header.columns.1, subst (λ n. n.columns + n.columns ≤ blocks n.order before) (sym p.0) r)) }
+    subst (λ n. n.columns + n.columns ≤ blocks n.order before) (sym p.0) r
 
 pub to_checks-requires : goal.to_checks-requires
 to_checks-requires c =
@@ -36,8 +42,7 @@ to_checks-requires c =
     let b = same_blocks K.header.order before middle c.begin.auto.area (K.header.columns + K.header.columns + length K.edges) (room_blocks K R before before p.1 refl) in
     let r : c.args.slip.numbers.columns + c.args.slip.numbers.columns + length K.edges ≤ blocks c.args.slip.numbers.order middle = subst (λ n. n.columns + n.columns + length K.edges ≤ blocks n.order middle) (sym p.0) b in
     record {
-      q = (subst (λ n. n.order ≤ 64) (sym p.0) R.header.order.1, (subst (λ n. n.columns ≤ 256) (sym p.0) R.header.columns.1, subst (λ E. length E ≤ 1024) e R.few_edges));
-      room = subst (λ E. c.args.slip.numbers.columns + c.args.slip.numbers.columns + length E ≤ blocks c.args.slip.numbers.order middle) e r;
+      room = (subst (λ E. c.args.slip.numbers.columns + c.args.slip.numbers.columns + length E ≤ blocks c.args.slip.numbers.order middle) e r, subst (λ E. length E ≤ 1024) e R.few_edges);
       edges = subst (λ E. (x : ℕ) → x < length E → column_at E x < c.args.slip.numbers.columns) e (subst (λ n. (x : ℕ) → x < length K.edges → column_at K.edges x < n.columns) (sym p.0) (facts K R).column_below);
     }
 

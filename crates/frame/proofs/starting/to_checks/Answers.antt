@@ -10,16 +10,16 @@ loop-e-init c = filled_none _ _ _ _
 
 pub copy_block-requires : goal.copy_block-requires
 copy_block-requires c =
-    let q = c.args.q in let n = c.args.n in let W = length c.args.edges.now in let x = c.loop-e.e in
-    let h : n + n + W ≤ blocks q c.loop-e.area = same_blocks q c.args.area.now c.loop-e.area c.loop-e.auto.area (n + n + W) c.requires.room in
+    let q = c.args.sizes.q in let n = c.args.sizes.n in let W = length c.args.edges.now in let x = c.loop-e.e in
+    let h : n + n + W ≤ blocks q c.loop-e.area = same_blocks q c.args.area.now c.loop-e.area c.loop-e.auto.area (n + n + W) c.requires.room.0 in
     let k = c.requires.edges x (omega arith) in
-    record { q = c.requires.q.0; i = omega arith; j = omega arith }
+    record { i = omega arith; j = omega arith }
 
 pub loop-e-preserved : goal.loop-e-preserved
 loop-e-preserved c =
-    let q = c.args.q in let n = c.args.n in let W = length c.args.edges.now in let x = c.loop-e.e in
+    let q = c.args.sizes.q in let n = c.args.sizes.n in let W = length c.args.edges.now in let x = c.loop-e.e in
     let area = c.loop-e.area in let E = c.args.edges.now in
-    let h : n + n + W ≤ blocks q area = same_blocks q c.args.area.now area c.loop-e.auto.area (n + n + W) c.requires.room in
+    let h : n + n + W ≤ blocks q area = same_blocks q c.args.area.now area c.loop-e.auto.area (n + n + W) c.requires.room.0 in
     let k = c.requires.edges x (omega arith) in
     filled_more q (n + n) _ c.args.area.now x (n + n + x) _ area c.copy_block.new.area c.loop-e.invariant
     (wrote q (n + n + x) _ area c.copy_block.new.area (length_block q (column_at E x) area (room q (column_at E x) (length area) (omega arith))) (omega arith) c.copy_block.ensures) refl

@@ -8,7 +8,7 @@ use Rattle.frame.proofs.sums.add_block.Goals as goal
 
 pub add-requires-clause-fits : goal.add-requires-clause-fits
 add-requires-clause-fits c = λ a l.
-    let q = c.args.q in let j = c.args.j in let area = c.args.area.now in
+    let q = c.args.sizes.q in let j = c.args.j in let area = c.args.area.now in
     let p = part_is q j area in
     let v = front_is q q c.args.i c.copied-v.result area refl c.copied-v.ensures in
     let long = length_block q j area (room q j (length area) c.requires.j) in
@@ -18,7 +18,7 @@ add-requires-clause-fits c = λ a l.
 pub returns : goal.returns
 unfolding put
 returns c =
-    let q = c.args.q in let j = c.args.j in let area = c.args.area.now in
+    let q = c.args.sizes.q in let j = c.args.j in let area = c.args.area.now in
     let p = part_is q j area in
     let v = front_is q q c.args.i c.copied-v.result area refl c.copied-v.ensures in
     let long = ap length p ∙ length_block q j area (room q j (length area) c.requires.j) in

@@ -7,6 +7,12 @@ use Rattle.frame.specs.Words.{symbol_at, failing_to, Summable}
 use Rattle.frame.proofs.Decisions.{summable, failing_is, word_is}
 use Rattle.frame.proofs.symbols.failing_with.Goals as goal
 
+pub invariant_of-sizes : goal.invariant_of-sizes
+invariant_of-sizes g c =
+    let R = rules_of _ _ _ c.args.code.now.admitted in
+    let e = sym c.header-header.ensures.answer in
+    record { fits = (subst (λ h. 1 ≤ h.order) e (omega (arith, R.header.order.0)), (subst (λ h. h.order ≤ 64) e R.header.order.1, subst (λ h. h.columns ≤ 256) e R.header.columns.1)) }
+
 pub decide-requires : goal.decide-requires
 decide-requires g c =
     let R = rules_of _ _ _ c.args.code.now.admitted in
@@ -15,7 +21,6 @@ decide-requires g c =
     let m = mul-le (K.header.columns + K.header.columns) K.header.order (2 * K.header.columns + 2 * length K.edges + 36) K.header.order (omega arith) (omega arith) in
     let r : (K.header.columns + K.header.columns) * K.header.order ≤ length c.args.area.now = omega (arith, c.requires.room.0) in
     record {
-      q = (subst (λ h. 1 ≤ h.order) e (omega (arith, R.header.order.0)), (subst (λ h. h.order ≤ 64) e R.header.order.1, subst (λ h. h.columns ≤ 256) e R.header.columns.1));
       room = (subst (λ h. (h.columns + h.columns) * h.order ≤ length c.args.area.now) e r, subst (λ h. length c.args.word.now ≡ h.columns) e c.requires.room.1);
     }
 
