@@ -3,6 +3,8 @@ ghost use Rattle.frame.specs.Vectors.{minus, over_one};
 
 use field::Field;
 
+// Stays (plain): each of these answers a code below the order. A type for such a code would name its field, and the field's own calls,
+// the tables and the words take plain bytes.
 // Stays (plain): the encoder and the joiners have some of these too. A public function may ask nothing of its callers, so one home
 // for all would answer an `Option` again.
 // The product of two codes.

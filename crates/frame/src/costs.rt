@@ -18,6 +18,8 @@ fn lower(v: &[u16], w: &[u16], ceiling: u16, out: &mut [u16])
     reduce(out, ceiling);
 }
 
+// Stays (plain): here and in `sums` each block is asked for by its own number, below the blocks of the area as it is at that call. A
+// number that is known to be in range would have to name the area, which is lent mutably from call to call.
 // Block k becomes what `lower` makes of blocks i and j.
 fn lower_block(area: &mut [u16], sizes: Sizes, i: usize, j: usize, k: usize, ceiling: u16)
     requires i { i < blocks sizes.q area.old }

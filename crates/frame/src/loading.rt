@@ -10,6 +10,8 @@ use crate::words::store;
 use code::code::Code;
 use due::{FrameRefusal, want_area, want_codes, want_column, want_numbers};
 
+// Stays (plain): the tests of each call take what was lent to that call: the code, the area, the slip or its numbers, and the column or
+// the word. A struct of them would be made for the tests alone, before the area is lent mutably again.
 // The tests of load.
 #[tactic(auto, unfolding(tree::specs::Frame::outcome))]
 fn grant(

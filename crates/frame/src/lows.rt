@@ -6,8 +6,9 @@ ghost use Rattle.tree.specs.Frame.{area_words, parts_of, within};
 use crate::within::blocks_within;
 use code::code::Code;
 
-// Stays (plain): here and in `symbols` each function asks that the area has the code's words. A struct of the code and the area that
-// holds this fact would be made anew after each write to the area, which is lent mutably in between, with as many proofs as now.
+// Stays (plain): here and in `symbols` each function asks that the area has the code's words, and there that the field has the code's
+// order. A struct of the code, the field and the area that holds these facts would be made anew after each write to the area, which is
+// lent mutably in between, with as many proofs as now.
 
 // Whether no channel cost exceeds the ceiling.
 pub fn channel_low(code: &Code, area: &[u16]) -> bool

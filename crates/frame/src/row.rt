@@ -10,6 +10,10 @@ use code::table::Edge;
 use field::Field;
 use joiner::Joiner;
 
+// Stays (plain): a row's edges, and where its costs stand, go through these methods side by side. A struct of them would be taken
+// apart in each, since `spread` reads one of the two places, `around` writes at the other, and the sweeps need neither; and the area is
+// lent mutably at each step, so that what it holds is said anew of each area.
+// Stays (plain): that a sweep's pairs are at most 65536 is said of each, as a number of its own; a type for it would only be added up.
 impl<'a, F: Field, J: Joiner> Joins<'a, F, J> {
     // Writes the from-check costs of a row's edges, to the blocks from `from` on, out of their to-check costs in the blocks from `to`
     // on, by way of the 36 scratch blocks.

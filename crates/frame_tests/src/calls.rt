@@ -58,6 +58,7 @@ fn example<J: Joiner>(rt: &impl Abort, joiner: &J, pairs: u32) -> Result<(), Fai
     concludes(rt, &field, &code, slip, &area, &mut word, 1)
 }
 
+// Stays (plain): a test for each joiner, by its name, over the one function above, which is generic in the joiner.
 #[test]
 fn with_all_pairs(rt: HostRuntime) -> Result<(), Fail> {
     example(&rt, &Full, 54)

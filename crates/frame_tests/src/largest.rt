@@ -109,6 +109,7 @@ fn decodes<J: Joiner>(rt: &impl Abort, joiner: &J, area: &mut [u16]) -> Result<(
     concludes(rt, &field, &code, slip, area, &mut word, 2)
 }
 
+// Stays (plain): a test for each joiner, by its name, over the one function above, which is generic in the joiner.
 #[test]
 fn with_all_pairs(rt: HostRuntime) -> Result<(), Fail> {
     let mut area = vec![in rt.alloc(); 0u16; WORDS]?;

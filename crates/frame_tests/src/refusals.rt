@@ -9,6 +9,11 @@ use std::test::Fail;
 
 // A line of a table that breaks several rules is refused for the first of them.
 // The code's limit is 20, so that a slip of the limit 19 has other numbers.
+// Stays (plain): each call has a table with columns of its own, a function that tries one line, and a test that goes over the lines. A
+// struct of a line would give each number a name a second time, and a function over any table would call the trying one through a closure
+// of as many parameters.
+// Stays (plain): where a line tells a vector's size, the vector is the front of an array, so that a part that is too long and one that is
+// too short come from the same words.
 
 // The field's order, the area's words, the refusal.
 const OPENINGS: [(u8, usize, u8); 3] = [(5, 167, 18), (5, 168, 18), (3, 167, 20)];

@@ -78,6 +78,7 @@ pub fn started<F: Field>(field: &F, code: &Code, area: &mut [u16]) -> Result<Run
     Ok(start(code, slip, area).map_err(|back| back.refusal)?)
 }
 
+// Stays (plain): here and in the other files, the code, the area and the slip go to each call by themselves, as any caller passes them.
 // The slip that a refused conclude gives back.
 pub fn not_concluded<F: Field>(
     rt: &impl Abort,

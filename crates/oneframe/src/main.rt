@@ -63,6 +63,7 @@ fn load_all(code: &Code, slip: &LoadingSlip, area: &mut [u16]) {
 }
 
 // Prints each column's decided symbol and its distances.
+// Stays (plain): a type with a printed form of its own would hold these five numbers for this one line.
 fn print_columns(
     rt: &HostRuntime,
     code: &Code,
