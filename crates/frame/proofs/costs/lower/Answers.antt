@@ -1,11 +1,6 @@
 use Rattle.std.proofs.Common.{length, ◌∙◌, arith}
-use Rattle.frame.specs.Columns.{rests}
-use Rattle.frame.proofs.Scans.{set_below}
 use Rattle.frame.proofs.Summed.{lowered_from}
 use Rattle.frame.proofs.costs.lower.Goals as goal
-
-pub loop-a-preserved : goal.loop-a-preserved
-loop-a-preserved c = set_below c.loop-a.a _ c.loop-a.out (rests c.args.v.now c.args.w.now) (omega arith) c.loop-a.invariant c.without.ensures
 
 pub returns : goal.returns
 returns c = c.reduce.ensures ∙ lowered_from (length c.args.out.now) c.args.ceiling c.args.v.now c.args.w.now c.loop-a.out (omega arith) c.loop-a.auto.out (λ x h. c.loop-a.invariant x (omega arith))

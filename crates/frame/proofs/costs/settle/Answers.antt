@@ -1,12 +1,9 @@
 use Rattle.std.proofs.Common.{◌+◌, ◌≤◌, replicate, refl, ap, inr, arith}
 use Rattle.frame.specs.Blocks.{blocks}
 use Rattle.frame.specs.Columns.{lowered}
-use Rattle.frame.proofs.Turns.{same_blocks, wrote, filled_none, filled_more}
+use Rattle.frame.proofs.Turns.{same_blocks, wrote, filled_more}
 use Rattle.frame.proofs.Summed.{length_lowered}
 use Rattle.frame.proofs.costs.settle.Goals as goal
-
-pub loop-c-init : goal.loop-c-init
-loop-c-init c = filled_none _ _ _ _
 
 pub loop-c-preserved : goal.loop-c-preserved
 loop-c-preserved c =

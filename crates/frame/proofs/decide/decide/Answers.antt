@@ -1,11 +1,8 @@
-use Rattle.std.proofs.Common.{◌+◌, length, ◌∙◌, arith}
+use Rattle.std.proofs.Common.{◌+◌, ◌∙◌, arith}
 use Rattle.tree.proofs.Rows.{tabled_is}
 use Rattle.frame.specs.Words.{symbol_at}
-use Rattle.frame.proofs.Scans.{block_room, block_lowest, set_below}
+use Rattle.frame.proofs.Scans.{block_lowest, set_below}
 use Rattle.frame.proofs.decide.decide.Goals as goal
-
-pub block_at-requires : goal.block_at-requires
-block_at-requires c = block_room (c.args.sizes.n + c.loop-c.c) (c.args.sizes.n + c.args.sizes.n) c.args.sizes.q (length c.args.area.now) (omega arith) c.requires.room.0
 
 pub loop-c-preserved : goal.loop-c-preserved
 loop-c-preserved c =

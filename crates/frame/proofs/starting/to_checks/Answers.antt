@@ -1,19 +1,9 @@
 use Rattle.std.proofs.Common.{◌+◌, ◌≤◌, length, refl, inl, arith}
 use Rattle.frame.specs.Blocks.{blocks}
 use Rattle.frame.specs.Columns.{column_at}
-use Rattle.frame.proofs.Turns.{same_blocks, wrote, filled_none, filled_more}
+use Rattle.frame.proofs.Turns.{same_blocks, wrote, filled_more}
 use Rattle.frame.proofs.Written.{room, length_block}
 use Rattle.frame.proofs.starting.to_checks.Goals as goal
-
-pub loop-e-init : goal.loop-e-init
-loop-e-init c = filled_none _ _ _ _
-
-pub copy_block-requires : goal.copy_block-requires
-copy_block-requires c =
-    let q = c.args.sizes.q in let n = c.args.sizes.n in let W = length c.args.edges.now in let x = c.loop-e.e in
-    let h : n + n + W ≤ blocks q c.loop-e.area = same_blocks q c.args.area.now c.loop-e.area c.loop-e.auto.area (n + n + W) c.requires.room.0 in
-    let k = c.requires.edges x (omega arith) in
-    record { i = omega arith; j = omega arith }
 
 pub loop-e-preserved : goal.loop-e-preserved
 loop-e-preserved c =

@@ -8,9 +8,6 @@ use Rattle.frame.proofs.sums.sums.Goals as goal
 pub loop-entry-init : goal.loop-entry-init
 loop-entry-init c = summed_none _ _ _ _ _ _ _
 
-pub edge_at-e-requires : goal.edge_at-e-requires
-edge_at-e-requires c = record { rising = c.requires.rising; there = (c.requires.entries c.loop-entry.entry-index (omega arith)).1 }
-
 pub add_block-requires : goal.add_block-requires
 add_block-requires c =
     let q = c.args.sizes.q in let k = c.loop-entry.entry-index in let e = c.edge_at-e.result in

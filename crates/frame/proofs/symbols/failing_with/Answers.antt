@@ -1,5 +1,4 @@
-use Rattle.std.proofs.Common.{◌≡◌, ◌+◌, ◌*◌, ◌≤◌, length, sym, ap, ◌∙◌, subst, ap₂, arith}
-use Rattle.std.proofs.lemmas.Nat.{mul-le}
+use Rattle.std.proofs.Common.{◌≤◌, sym, ap, ◌∙◌, subst, ap₂, arith}
 use Rattle.code.proofs.Lawfully.{rules_of}
 use Rattle.code.specs.Views.{view}
 use Rattle.tree.specs.Rows.{tabled}
@@ -12,17 +11,6 @@ invariant_of-sizes g c =
     let R = rules_of _ _ _ c.args.code.now.admitted in
     let e = sym c.header-header.ensures.answer in
     record { fits = (subst (λ h. 1 ≤ h.order) e (omega (arith, R.header.order.0)), (subst (λ h. h.order ≤ 64) e R.header.order.1, subst (λ h. h.columns ≤ 256) e R.header.columns.1)) }
-
-pub decide-requires : goal.decide-requires
-decide-requires g c =
-    let R = rules_of _ _ _ c.args.code.now.admitted in
-    let K = view c.args.code.now in
-    let e = sym c.header-header.ensures.answer in
-    let m = mul-le (K.header.columns + K.header.columns) K.header.order (2 * K.header.columns + 2 * length K.edges + 36) K.header.order (omega arith) (omega arith) in
-    let r : (K.header.columns + K.header.columns) * K.header.order ≤ length c.args.area.now = omega (arith, c.requires.room.0) in
-    record {
-      room = (subst (λ h. (h.columns + h.columns) * h.order ≤ length c.args.area.now) e r, subst (λ h. length c.args.word.now ≡ h.columns) e c.requires.room.1);
-    }
 
 pub failing-requires : goal.failing-requires
 failing-requires g c =

@@ -8,15 +8,6 @@ use Rattle.frame.proofs.Written.{room_at}
 use Rattle.frame.proofs.Steps.{front_is, front_long, clear, ok_told, told_is}
 use Rattle.frame.proofs.step.Joins.step.Goals as goal
 
-pub copied-left-requires : goal.copied-left-requires
-copied-left-requires g c = room_at _ _ _ _ c.order-q.ensures (g.met.F.Field.lawful c.args.self.now.field.now).high c.requires.i
-
-pub copied-right-requires : goal.copied-right-requires
-copied-right-requires g c = room_at _ _ _ _ c.order-q.ensures (g.met.F.Field.lawful c.args.self.now.field.now).high c.requires.j
-
-pub put_back-requires : goal.put_back-requires
-put_back-requires g c = (c.join.auto.joined ∙ front_long _ (room_at _ _ _ _ c.order-q.ensures (g.met.F.Field.lawful c.args.self.now.field.now).high c.requires.k).0, (room_at _ _ _ _ c.order-q.ensures (g.met.F.Field.lawful c.args.self.now.field.now).high c.requires.k).1)
-
 pub unwrap-pairs-requires : goal.unwrap-pairs-requires
 unwrap-pairs-requires g c =
     let t = g.F.Field.meaning c.args.self.now.field.now in
