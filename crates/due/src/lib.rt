@@ -21,6 +21,7 @@ pub fn numbers_of(code: &Code) -> Numbers
     ensures { numbers_in result ≡ numbers_of (view code.now) }
 {
     let header = code.header();
+    // Stays (plain): the numbers are those of the header and how many edges there are, so each is copied by its name.
     Numbers {
         order: header.order,
         columns: header.columns,
@@ -89,6 +90,7 @@ pub fn want_columns(code: &Code, size: usize) -> Result<(), FrameRefusal>
     want(holds, FrameRefusal::Length)
 }
 
+// Stays (plain): like `want_column`, of another number and another refusal; one function of these would be `want` again.
 // Wants a round that is left.
 pub fn want_round(code: &Code, made: u16) -> Result<(), FrameRefusal>
     ensures { result ≡ (if nat_lt made (view code.now).header.limit then Ok tt else Err FrameRefusal.Limit) }

@@ -147,10 +147,6 @@ written_over at n f before v h l e = record {
     kept k (inl m) = grind (arith, places)
     kept k (inr m) = grind (arith, places)
 
--- what stands from i on, past a write at i
-pub set_past : (i v : ℕ) (xs old : List ℕ) → ((k : ℕ) → i ≤ k → get_or xs k 0 ≡ get_or old k 0) → (k : ℕ) → i + 1 ≤ k → get_or (set xs i v) k 0 ≡ get_or old k 0
-set_past i v xs old past k l = let ne : k ≢ i = omega arith in rw get_or-set_other (past k (omega arith))
-
 -- ---- folds
 pub over_yes : (op : ℕ → ℕ → ℕ) (u n : ℕ) (test : ℕ → Bool) (f : ℕ → ℕ) → test n ≡ true → over op u (n + 1) test f ≡ op (f n) (over op u n test f)
 unfolding over
