@@ -20,16 +20,7 @@ pub use refusal::FrameRefusal;
 pub fn numbers_of(code: &Code) -> Numbers
     ensures { numbers_in result ≡ numbers_of (view code.now) }
 {
-    let header = code.header();
-    // Stays (plain): the numbers are those of the header and how many edges there are, so each is copied by its name.
-    Numbers {
-        order: header.order,
-        columns: header.columns,
-        rows: header.rows,
-        edges: code.edges().len(),
-        ceiling: header.ceiling,
-        limit: header.limit,
-    }
+    Numbers::new(code.header(), code.edges().len())
 }
 
 // Goes on where a test holds, and refuses where it does not.
