@@ -9,6 +9,12 @@ use Rattle.encoder.specs.CheckMatrix.{coefficient_in}
 abbrev pub laid : List ℕ → ℕ → ℕ → Matrix
 laid s m n = record { rows = m; columns = n; entry = λ r c. slice_index s (r * n + c) }
 
+-- the numbers of rows and columns that the bytes have room for
+pub record Room (s : List ℕ) (m n : ℕ) : Type 0 where
+  pub rows_high : m ≤ 128
+  pub columns_high : n ≤ 256
+  pub bytes : m * n ≤ length s
+
 -- the bytes have room for m rows of n columns, and hold a code below q at each of them
 pub record CodesLaid (q : ℕ) (s : List ℕ) (m n : ℕ) : Type 0 where
   pub room : m * n ≤ length s
