@@ -1,5 +1,6 @@
 // What a field answers for codes that are known to be below its order.
-// Stays (rule): other crates have the like for themselves. To share it, it would have to be public, and no public function has a `requires`.
+// Stays (rule): other crates have the like for themselves. To share it, it would have to be public, and a public function may not require
+// that its codes are below q.
 // A type for codes below the order would have to name its field, and the bytes that are read and written are plain.
 ghost use Rattle.std.specs.Prelude.{◌≡◌, ◌<◌, ◌≢◌};
 

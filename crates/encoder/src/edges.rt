@@ -24,8 +24,8 @@ impl<'f, F: Field> Elimination<'f, F> {
 }
 
 // The coefficients of the row's edges times the symbols of the word, summed.
-// Stays (plain): `row_sum` looks alike, but goes over all columns of a laid row and multiplies by the table; here the row's few edges are picked out of all, and the field multiplies.
-// One function for both would take the entries and the product as closures.
+// Stays (plain): `row_sum` looks alike, but goes over all columns of a laid row and multiplies by the table; here the row's few edges are
+// picked out of all, and the field multiplies. One function for both would take the entries and the product as closures.
 fn edge_sum<F: Field>(field: &F, edges: &[Edge], word: &[u8], row: usize) -> u8
     requires listed { (m : ℕ) × Listed (F.Field.meaning field.now).order m (length word.now) edges.now }
     requires codes { Below (F.Field.meaning field.now).order word.now }

@@ -10,8 +10,9 @@ use code::table::Edge;
 use field::Field;
 
 // What stays the same while a matrix is reduced: the field, the products of any two of its codes, and the matrix's size.
-// Stays (plain): the lent bytes of the matrix are no field. Each method that writes them would then have to promise that it keeps rows and columns, since a caller
-// knows no size after it otherwise; that is three clauses for the one or two that now say what the bytes hold.
+// Stays (plain): the struct does not hold the lent bytes. Each method that writes them would then have to promise that it keeps rows and
+// columns, since a caller knows no size after it otherwise; that is three clauses for the one or two that now say what the bytes hold.
+// Stays (rule): the table of products, and the owners that both calls make, are fixed memory of the greatest size, cut to the size in use.
 #[derive(Drop)]
 pub(crate) struct Elimination<'f, F: Field> {
     pub(crate) field: &'f F,
@@ -39,8 +40,8 @@ impl<'f, F: Field> Elimination<'f, F> {
         }
     }
 
-    // Stays (plain): the methods on one row or entry ask that its row and column are in range, each of the numbers that it takes. A place that carries both would be
-    // made from them before each call, and ask the same there.
+    // Stays (plain): the methods on one row or entry ask that its row and column are in range, each of the numbers that it takes. A place
+    // that carries both would be made from them before each call, and ask the same there.
     // Where row `r` begins.
     pub(crate) fn start(&self, r: usize) -> usize
         requires { r < self.now.rows }

@@ -58,8 +58,8 @@ pub(crate) fn gather(owners: &[Option<u16>], word: &[u8], symbols: &mut [u8])
     requires enough { length symbols.old ≡ count (length word.now) (free_of owners.now (length owners.now)) }
     ensures { Gathered (length owners.now) owners.now word.now symbols.new (length word.now) }
 {
-    // Stays (proof): with `symbols.iter_mut()` in a `zip` with the free columns, the loop's invariant has a name only for the references handed out, not for what was
-    // written through them, so the place is counted.
+    // Stays (proof): with `symbols.iter_mut()` in a `zip` with the free columns, the loop's invariant has a name only for the references
+    // handed out, not for what was written through them, so the place is counted.
     let mut k = 0;
     for (c, symbol) in word.iter().enumerate() {
         if !owned(owners, c) {

@@ -20,7 +20,6 @@ pub enum CoderRefusal {
 
 impl CoderRefusal {
     // The number by which a report names the refusal.
-    // Stays (plain): `From` would hold the same match, and callers name what they ask for by this method.
     pub fn number(self) -> u8
         ensures answer { result ≡ number_of self }
     {

@@ -20,7 +20,8 @@ impl<'f, F: Field> Elimination<'f, F> {
         let multiples = self.multiples(factor);
         let to = self.start(target);
         let from = self.start(source);
-        // Stays (plain): both rows lie in one lent slice. To go over them side by side it would have to be cut between them, in one way for each order of the two.
+        // Stays (plain): both rows lie in one lent slice. To go over them side by side it would have to be cut between them, in one way for
+        // each order of the two.
         for j in 0..self.columns {
             let more = multiples[matrix[from + j] as usize];
             matrix[to + j] = codes::plus(self.field, matrix[to + j], more);

@@ -14,8 +14,8 @@ fn spread(costs: &mut [u16], half: usize, shares: Shares)
     ensures low { (a : ℕ) → a < half → slice_index costs.new a ≡ slice_index costs.old a + shares.low }
     ensures high { (a : ℕ) → a < half → slice_index costs.new (half + a) ≡ slice_index costs.old a + shares.high }
 {
-    // Stays (proof): over the two halves from `split_at_mut` in a `zip`, the loop's invariant has a name only for the references handed out, not for what was written
-    // through them. `enumerate` over the low half alone would still index the high one.
+    // Stays (proof): over the two halves from `split_at_mut` in a `zip`, the loop's invariant has a name only for the references handed
+    // out, not for what was written through them. `enumerate` over the low half alone would still index the high one.
     for a in 0..half {
         let cost = costs[a];
         costs[a] = cost + shares.low;

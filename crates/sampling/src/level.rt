@@ -38,6 +38,7 @@ fn scaled(x: f32, scale: f32) -> f32
     ensures finite { sized result ≡ true }
     ensures value { size result ≡ magnitude x (size scale) }
 {
+    // Stays (proof): `min` of floats promises either of two that are equal, so what the clause says of `x.abs().min(scale)` is not shown.
     let magnitude = x.abs();
     if magnitude <= scale { magnitude } else { scale }
 }

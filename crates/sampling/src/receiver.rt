@@ -14,7 +14,8 @@ pub struct Settings {
 }
 
 // Settings that hold, and a ceiling in range.
-// Stays (plain): the law of sampling is a promise of the public call alone, and the tests that each call makes first hand it on; it says nothing of a receiver.
+// Stays (plain): the clause `law` stands in three functions, since the tests that a call makes first hand it on. It says nothing of a
+// receiver, so it is no part of this type.
 #[derive(Clone, Copy)]
 pub(crate) struct Receiver {
     pub(crate) settings: Settings,

@@ -14,7 +14,6 @@ pub enum SampleRefusal {
 
 impl SampleRefusal {
     /// The number by which a report names the refusal.
-    // Stays (plain): `From` would hold the same match, and callers name what they ask for by this method.
     pub fn number(self) -> u8
         ensures { result ≡ number self }
     {

@@ -42,7 +42,8 @@ impl Receiver {
         requires { not_number sample ≡ false }
         ensures { (result.low ≡ share_of self.settings self.ceiling false sample) × (result.high ≡ share_of self.settings self.ceiling true sample) }
     {
-        // Stays (plain): each arm says towards which bit and with what level. Taken out of the arms, the two would make a pair only to be handed on.
+        // Stays (plain): each arm says towards which bit and with what level. Taken out of the arms, the two would make a pair only to be
+        // handed on.
         match sample {
             Sample::Lost => towards(false, 0),
             Sample::Known(bit) => towards(bit, self.ceiling),

@@ -10,7 +10,7 @@ const PRIMES: [u8; 18] = [
 ];
 
 impl Prime {
-    // The prime field of order `q`. Refuses with 1 if q is outside 2 to 64, with 2 unless q is prime.
+    // The prime field of order `q`. Refuses with Order if q is outside 2 to 64, with NotPrime unless q is prime.
     #[tactic(auto, using(crate::proofs::Contained::contained, crate::proofs::Factors::primes_listed))]
     pub fn new(q: u8) -> Result<Prime, FieldRefusal>
         ensures answer { answer_of result ≡ prime_answer q }

@@ -37,7 +37,8 @@ fn raise(pairs: Pairs) -> Tower
 }
 
 // Makes the tower on copies of the base's tables, where y·y = u·y + v, and writes it whole into `tower`.
-// Refuses with 1 if r × r exceeds 64, 5 if u or v is no code of the base, 6 if t·t = u·t + v for some base code t; `tower` is then as it was.
+// Refuses with Order if r × r exceeds 64, NotCode if u or v is no code of the base, Root if t·t = u·t + v for some base code t; `tower` is
+// then as it was.
 pub fn make_tower<F: Field>(base: &F, u: u8, v: u8, tower: &mut Tower) -> Result<(), FieldRefusal>
     ensures answer { refusal_of result ≡ tower_refusal (F.Field.meaning base.now) u v }
     ensures tower { parts_of tower.new ≡ (if nat_eq (tower_refusal (F.Field.meaning base.now) u v) 0 then parts_for (F.Field.meaning base.now) u v else parts_of tower.old) }
