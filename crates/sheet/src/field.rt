@@ -59,6 +59,8 @@ impl<'a> Line<'a> {
     }
 
     // Field i of the line, from 0.
+    // Stays (plain): it is looked for from the line's start, and a line has at most six; `split(..).nth(i)` gives the field's
+    // bytes but not where they start, which its place tells.
     pub fn field(self, i: usize) -> Part<'a>
         requires { i < length (fields self.bytes.now) }
         ensures { seen result ≡ cell self.entry.place (fields self.entry.bytes.now) i }
@@ -91,7 +93,7 @@ impl Part<'_> {
         }
     }
 
-    // The number that the field writes; 11 if it writes none.
+    // The number that the field writes; `NotWritten` if it writes none.
     pub fn number(&self) -> Result<u16, SheetFault>
         ensures { result ≡ numeral (seen self.now) }
     {
@@ -107,7 +109,7 @@ impl Part<'_> {
             .ok_or(SheetFault::NotWritten(self.place))
     }
 
-    // 12 unless the field's number n is at least low and below limit.
+    // `OutOfRange` unless the field's number n is at least low and below limit.
     // Stays (plain): a bool turns into a Result by no method of its own, and `then_some(()).ok_or(..)` hides the test.
     #[tactic(auto, unfolding(crate::specs::Lines::ranged))]
     pub fn ranged(&self, low: u16, limit: u16, n: u16) -> Result<(), SheetFault>

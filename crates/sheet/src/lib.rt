@@ -4,6 +4,6 @@ pub mod fault;
 mod field;
 mod line;
 mod number;
-pub mod pieces;
+mod pieces;
 pub mod read;
 mod token;

@@ -57,7 +57,8 @@ fn fits(line: Line, due: Due, kind: Kind) -> bool
     is_due(due, kind) && line.count() == fields_of(kind)
 }
 
-// The kind of the line's record; 10 unless it is due and has its number of fields.
+// The kind of the line's record; `NotDue` unless it is due and has its number of fields.
+// Stays (proof): with `filter` and `ok_or` the answer was not proved to be the definition's.
 #[tactic(auto, unfolding(crate::specs::Lines::kind_due))]
 fn kind_due(line: Line, due: Due) -> Result<Kind, SheetFault>
     ensures { result ≡ kind_due due line.entry.place (fields line.entry.bytes.now) }
@@ -93,7 +94,7 @@ fn header_of(q: &Part, n: &Part, m: &Part, c: &Part, l: &Part) -> Result<Header,
 }
 
 // Stays (plain): the bound on the order is asked from here up to the reader of lines, for the one cast below. A type
-// for such headers would put a field of its own between each answer and the definition that it states.
+// for such headers would put a struct member between each answer and the definition that it states.
 fn edge_of(header: Header, r: &Part, c: &Part, k: &Part) -> Result<Edge, SheetFault>
     requires { header.order ≤ 64 }
     ensures { result ≡ edge_of header (seen r.now) (seen c.now) (seen k.now) }

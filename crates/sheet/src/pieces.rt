@@ -10,7 +10,7 @@ pub fn until(bytes: &[u8], stop: u8) -> usize
 }
 
 // How many pieces there are between the bytes `stop`.
-pub(crate) fn pieces(bytes: &[u8], stop: u8) -> usize
+pub fn pieces(bytes: &[u8], stop: u8) -> usize
     requires { length bytes.now + 1 < 2 ^ 64 }
     ensures { result ≡ length (split stop bytes.now) }
 {

@@ -21,7 +21,7 @@ struct Filled {
     entries: usize,
 }
 
-// The end of the line that starts at a place; 16 if it has no line feed.
+// The end of the line that starts at a place; `Ends` if it has no line feed.
 // Stays (plain): `until` finds it, as it finds the end of a field, and so answers the text's end where none is found.
 fn line_end(text: &[u8], place: Place) -> Result<usize, SheetFault>
     requires { place.byte ≤ length text.now }
@@ -29,11 +29,9 @@ fn line_end(text: &[u8], place: Place) -> Result<usize, SheetFault>
 {
     let at = place.byte;
     let end = at + until(&text[at..], b'\n');
-    if end < text.len() {
-        Ok(end)
-    } else {
-        Err(SheetFault::Ends(place))
-    }
+    (end < text.len())
+        .then_some(end)
+        .ok_or(SheetFault::Ends(place))
 }
 
 // The start of the line below one that ends at a byte.
@@ -48,7 +46,7 @@ fn below(place: Place, end: usize) -> Place
     }
 }
 
-// Puts the record of a line into a table at its first free place; 17 if there is none.
+// Puts the record of a line into a table at its first free place; `Full` if there is none.
 // Stays (proof): with `get_mut` and `ok_or` for the slot, neither the table after it is written nor the one kept at a refusal
 // was proved to be as the clause says.
 fn put<T: Copy>(table: &mut [T], free: usize, item: T, place: Place) -> Result<(), SheetFault>
