@@ -33,7 +33,7 @@ impl Receiver {
         if !are_settled(settings) {
             return Err(SampleRefusal::Receiver);
         }
-        if ceiling < 1 || ceiling > 1023 {
+        if !(1..=1023).contains(&ceiling) {
             return Err(SampleRefusal::Ceiling);
         }
         Ok(Receiver { settings, ceiling })

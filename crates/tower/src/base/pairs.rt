@@ -42,11 +42,8 @@ impl Pairs {
         ensures { result ≡ at_both (self.now.base.r * self.now.base.r) (pair_sum (tables_of self.now.base)) a b }
     {
         let r = self.base.r;
-        if a < r * r && b < r * r {
-            Some(self.base.sum(a % r, b % r) + r * self.base.sum(a / r, b / r))
-        } else {
-            None
-        }
+        (a < r * r && b < r * r).then(|| self.base.sum(a % r, b % r)
+            + r * self.base.sum(a / r, b / r))
     }
 
     // Their product.
@@ -54,10 +51,7 @@ impl Pairs {
         ensures { result ≡ at_both (self.now.base.r * self.now.base.r) (pair_product (tables_of self.now.base) self.now.u self.now.v) a b }
     {
         let r = self.base.r;
-        if a < r * r && b < r * r {
-            Some(self.low(a % r, a / r, b % r, b / r) + r * self.high(a % r, a / r, b % r, b / r))
-        } else {
-            None
-        }
+        (a < r * r && b < r * r).then(|| self.low(a % r, a / r, b % r, b / r)
+            + r * self.high(a % r, a / r, b % r, b / r))
     }
 }
