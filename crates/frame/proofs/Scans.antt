@@ -1,6 +1,6 @@
 -- One more turn of a walk over words, edges or codes. Assumes nothing.
 use Rattle.std.proofs.Common.{◌≡◌, ℕ, zero, suc, pred, ◌+◌, ◌-◌, ◌*◌, ◌<◌, ◌≤◌, min, Bool, true, false, cond, ◌&&◌, ltb, leb, ◌≢◌, ◌⊎◌, List, [], ◌∷◌, length, get_or, take, drop, ◌++◌, set, sym, refl, ap, ◌∙◌, subst, ap₂, inl, inr, add-one, arith, get_or-set_other, get_or-set_same}
-use Rattle.std.specs.List.{list_all}
+use Rattle.std.specs.List.{fold, list_all}
 use Rattle.std.proofs.Math.Nat.{suc-mul, add-mul}
 use Rattle.std.proofs.Math.Bool.{and_assoc, and_comm}
 use Rattle.std.proofs.lemmas.Nat.{mul-le}
@@ -81,12 +81,7 @@ blocks_every area q s n top h =
     ∙ every_parts n q (λ a. leb (get_or area (s * q + a) 0) top)
     ∙ every_same n n _ _ refl (λ c k. every_same q q _ _ refl (λ a l. ap (λ p. leb (get_or area p 0) top) (let w : s * q + (c * q + a) ≡ (s + c) * q + a = omega (arith, add-mul s c q) in w)))
 
--- ---- the least, and the lowest place of it
-pub least_next : (a : ℕ) (f : ℕ → ℕ) → min (least_to (pred a) f) (f a) ≡ least_to (pred (a + 1)) f
-unfolding least_to
-least_next zero f = let e : min (f 0) (f 0) ≡ f 0 = omega arith in e
-least_next (suc a) f = ap (λ n. least_to n f) (let e : suc a ≡ pred (suc a + 1) = omega arith in e)
-
+-- ---- the lowest place of the least
 pub lowest_next : (a : ℕ) (f : ℕ → ℕ) (best : ℕ) → best ≡ lowest_to (pred a) f → cond (ltb (f a) (f best)) a best ≡ lowest_to (pred (a + 1)) f
 unfolding lowest_to
 lowest_next zero f best e = ap (λ b. cond (ltb (f 0) (f b)) 0 b) e ∙ either (ltb (f 0) (f 0)) 0
@@ -171,3 +166,23 @@ count_next n test = go (test n) refl
 pub one_low : (b : Bool) → cond b 1 0 ≤ 1
 one_low true = omega arith
 one_low false = omega arith
+
+-- ---- the least of a list
+least_head : (n : ℕ) (f : ℕ → ℕ) → least_to (suc n) f ≡ min (f 0) (least_to n (λ a. f (suc a)))
+unfolding least_to
+least_head zero f = refl
+least_head (suc n) f = ap (λ k. min k (f (suc (suc n)))) (least_head n f) ∙ omega arith
+
+least_below : (n : ℕ) (f : ℕ → ℕ) → least_to n f ≤ f 0
+unfolding least_to
+least_below zero f = omega arith
+least_below (suc n) f = omega (arith, least_below n f)
+
+fold_min : (m x : ℕ) (xs : List ℕ) → fold min m (x ∷ xs) ≡ min m (least_to (length xs) (λ a. get_or (x ∷ xs) a 0))
+unfolding least_to
+fold_min m x [] = refl
+fold_min m x (y ∷ ys) = fold_min (min m x) y ys ∙ omega (arith, least_head (length ys) (λ a. get_or (x ∷ y ∷ ys) a 0))
+
+pub least_of : (v : List ℕ) → 1 ≤ length v → fold min (get_or v 0 0) v ≡ least_to (pred (length v)) (λ a. get_or v a 0)
+least_of [] l = absurd (let z : ⊥ = omega arith in z)
+least_of (x ∷ xs) l = fold_min x x xs ∙ omega (arith, least_below (length xs) (λ a. get_or (x ∷ xs) a 0))

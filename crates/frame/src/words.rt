@@ -1,5 +1,5 @@
-ghost use Rattle.std.specs.Prelude.{◌≡◌, ℕ, pred, ◌+◌, ◌-◌, ◌*◌, ◌<◌, ◌≤◌, min, length, slice_index};
-ghost use Rattle.tree.specs.Over.{least_to};
+ghost use Rattle.std.specs.Prelude.{◌≡◌, ℕ, ◌+◌, ◌-◌, ◌*◌, ◌<◌, ◌≤◌, min, length, slice_index};
+ghost use Rattle.std.specs.List.{fold};
 ghost use Rattle.tree.specs.Rows.{tabled};
 ghost use Rattle.frame.specs.Words.{Written, store_at};
 
@@ -16,13 +16,11 @@ pub fn clear(area: &mut [u16], n: usize)
 // The least of some values.
 fn least(values: &[u16]) -> u16
     requires { 1 ≤ length values.now }
-    ensures { result ≡ least_to (pred (length values.now)) (λ a. slice_index values.now a) }
+    ensures { result ≡ fold min (slice_index values.now 0) values.now }
 {
-    let mut m = values[0];
-    for value in values {
-        m = lesser(m, *value);
-    }
-    m
+    values
+        .iter()
+        .fold(values[0], |m: u16, value| lesser(m, *value))
 }
 
 // Lessens the values by the least of them, and lowers them to the ceiling.
