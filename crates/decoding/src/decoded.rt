@@ -74,6 +74,8 @@ pub fn decode<F: Field, J: Joiner>(
     match conclude(field, code, slip, area, word) {
         Ok(rounds) => Ok(rounds),
         Err(NotConcluded { refusal, mut slip }) if is_row(refusal) => {
+            // Stays (plain): the slip goes into the refusal here and is used after it too, so a `map_err`, which would move it, can't
+            // stand for this.
             if let Err(Stop { refusal, failing }) = settle(field, joiner, code, &mut slip, area) {
                 return Err(NotDecoded {
                     refusal: reason(refusal),
@@ -81,6 +83,7 @@ pub fn decode<F: Field, J: Joiner>(
                     slip,
                 });
             }
+            // This is never refused, since the first call was refused only for a failing row and none fails any more: no count is lost.
             Ok(conclude(field, code, slip, area, word)?)
         }
         Err(back) => Err(NotDecoded::from(back)),

@@ -17,6 +17,7 @@ pub struct Sizes {
 // Stays (plain): a struct that holds the lent words beside q would ask of each function that is given it, and of each loop, two more
 // clauses: that q and the words that it lends are still the same.
 // Stays (rule): a join's vectors are copied out into local arrays, since what is made of them is written to the same area.
+// Stays (rule): memory is fixed, so here and in other files a local array has the largest size and is cut to that of the code.
 // Block j, at the front of an array.
 pub fn copied(area: &[u16], q: usize, j: usize) -> [u16; 64]
     requires { (q ≤ 64) × (j * q + q ≤ length area.now) }

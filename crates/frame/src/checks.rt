@@ -28,6 +28,8 @@ pub fn failing<F: Field>(field: &F, edges: &[Edge], word: &[u8], m: u16) -> u16
     requires summable { Summable (F.Field.meaning field.now) edges.now word.now }
     ensures { result ≡ failing_to (F.Field.meaning field.now) edges.now word.now m }
 {
+    // Stays (plain): `chunk_by` would go over the rows that have an edge, not over the m rows by number, as the count is told; so where
+    // each row begins is counted by hand.
     let mut first = 0;
     let mut failing = 0;
     for r in 0..m {

@@ -5,8 +5,7 @@ use field::Field;
 
 // Stays (plain): each of these answers a code below the order. A type for such a code would name its field, and the field's own calls,
 // the tables and the words take plain bytes.
-// Stays (plain): the encoder and the joiners have some of these too. A public function may ask nothing of its callers, so one home
-// for all would answer an `Option` again.
+// Stays (rule): the encoder and the joiners have some of these too, since a public function may not require that its codes are below q.
 // The product of two codes.
 pub fn times<F: Field>(field: &F, a: u8, b: u8) -> u8
     requires { (a < (F.Field.meaning field.now).order) × (b < (F.Field.meaning field.now).order) }

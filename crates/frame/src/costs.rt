@@ -12,6 +12,7 @@ fn lower(v: &[u16], w: &[u16], ceiling: u16, out: &mut [u16])
     requires { (1 ≤ length out.old) × ((length v.now ≡ length out.old) × (length w.now ≡ length out.old)) }
     ensures { out.new ≡ lowered (length out.old) ceiling v.now w.now }
 {
+    // Stays (proof): over `out.iter_mut().zip(v)`, as in `add` of `sums`, nothing ties the words after the loop to those written in it.
     for (a, x) in v.iter().enumerate() {
         out[a] = without(*x, w[a]);
     }

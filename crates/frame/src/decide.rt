@@ -12,6 +12,7 @@ pub fn lowest(distances: &[u16]) -> u8
     ensures is { result ≡ lowest_to (pred (length distances.now)) (λ a. slice_index distances.now a) }
     ensures code { result < length distances.now }
 {
+    // Stays (plain): a fold would carry each code with its distance as a pair, from which the code would be taken at the end.
     let mut best = 0;
     for (a, distance) in distances.iter().enumerate() {
         best = nearer(best, distances[best], a, *distance);

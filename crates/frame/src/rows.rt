@@ -10,7 +10,6 @@ use code::table::Edge;
 use field::Field;
 use joiner::Joiner;
 
-// Stays (plain): `chunk_by` would give the rows' edges, and beside it the place where each row begins would still be counted by hand.
 // Where the first edge stands that is of another row than r.
 fn leaves_row(edges: &[Edge], r: u16) -> Option<usize>
     ensures { result ≡ position (λ edge. not (edge.row == r)) edges.now }
@@ -44,6 +43,8 @@ impl<'a, F: Field, J: Joiner> Joins<'a, F, J> {
         ensures pairs { result ≡ rows_pairs (J.Joiner.pairs self.now.joiner.now) (F.Field.meaning self.now.field.now) self.now.ceiling edges.now to area.old m }
         ensures area { RowsTo (F.Field.meaning self.now.field.now) edges.now to from self.now.scratch m area.old area.new }
     {
+        // Stays (plain): `chunk_by` would give the rows' edges, and beside it the place where each row begins, which tells its blocks of
+        // costs, would still be counted by hand.
         let mut first = 0;
         let mut pairs = 0;
         for r in 0..m {

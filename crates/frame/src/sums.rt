@@ -14,6 +14,8 @@ fn add(sums: &mut [u16], v: &[u16])
     requires fits { (a : ℕ) → a < length sums.old → slice_index sums.old a + slice_index v.now a < 65536 }
     ensures { sums.new ≡ added (length sums.old) sums.old v.now }
 {
+    // Stays (proof): over `sums.iter_mut().zip(v)` the goal that the sums are those wanted stays open, since nothing ties the words that
+    // stand after the loop to those that were written in it.
     for (a, x) in v.iter().enumerate() {
         sums[a] += *x;
     }

@@ -38,7 +38,8 @@ pub fn failing_rows<F: Field>(field: &F, code: &Code, area: &[u16]) -> u16
 }
 
 // Writes the decided symbols and says so, if no row fails with them.
-// Stays (plain): the answer is a test, on which the caller refuses; an `Option<()>` would say no more than the bool.
+// Stays (plain): the answer is a test, on which the caller refuses by `want`, as on its other tests; a `Result<(), FrameRefusal>` would
+// name here the one refusal that only the caller's clause speaks of.
 pub fn decided_word<F: Field>(field: &F, code: &Code, area: &[u16], word: &mut [u8]) -> bool
     requires order { (F.Field.meaning field.now).order ≡ (view code.now).header.order }
     requires room { (area_words (view code.now) ≤ length area.now) × (length word.old ≡ (view code.now).header.columns) }

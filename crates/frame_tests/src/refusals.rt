@@ -9,6 +9,7 @@ use std::test::Fail;
 
 // A line of a table that breaks several rules is refused for the first of them.
 // The code's limit is 20, so that a slip of the limit 19 has other numbers.
+// Stays (plain): a table holds the numbers of refusals and not the refusals, because the number itself is under test.
 // Stays (plain): each call has a table with columns of its own, a function that tries one line, and a test that goes over the lines. A
 // struct of a line would give each number a name a second time, and a function over any table would call the trying one through a closure
 // of as many parameters.
