@@ -1,7 +1,14 @@
 ghost use Rattle.std.specs.Prelude.{◌≡◌, ◌≤◌, IfSome};
+ghost use Rattle.sheet.specs.Words.{digit};
 ghost use Rattle.notation.specs.Numbers.{number_of};
 
 use crate::written::Written;
+
+fn is_digit(b: u8) -> bool
+    ensures { result ≡ digit b }
+{
+    b.is_ascii_digit()
+}
 
 // The number that one or more digits write, if it is at most `largest`.
 pub fn number(text: &[u8], largest: u32) -> Option<u32>
@@ -14,7 +21,7 @@ pub fn number(text: &[u8], largest: u32) -> Option<u32>
     // Stays (plain): `try_fold` would hold the same two refusals in one closure.
     let mut n: u64 = 0;
     for b in text {
-        if !b.is_ascii_digit() {
+        if !is_digit(*b) {
             return None;
         }
         n = n * 10 + u64::from(*b - b'0');

@@ -7,6 +7,7 @@ ghost use Rattle.notation.specs.Pieces.{FirstReads, Gives, pieces_of};
 use crate::written::Written;
 
 // The pieces of a text between the bytes `stop`, one after another: one more than there are such bytes.
+// Stays (plain): the slice's own `split` takes a closure, whose type has no name that a struct could hold it by.
 #[derive(Clone, Copy)]
 pub struct Parts<'a> {
     stop: u8,
@@ -15,6 +16,8 @@ pub struct Parts<'a> {
 }
 
 // Where the first `stop` stands.
+// Stays (plain): the reader of sheets has one like it, but told as a length, which is the text's own where none stands; here
+// it must be told whether one stands.
 fn first_stop(text: &[u8], stop: u8) -> Option<usize>
     ensures { result ≡ position (λ b. b == stop) text.now }
 {

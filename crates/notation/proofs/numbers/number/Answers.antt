@@ -9,8 +9,8 @@ use Rattle.notation.proofs.numbers.number.Goals as goal
 pub returns-then-is_empty : goal.returns-then-is_empty
 returns-then-is_empty c = record { value = none_empty c.args.largest c.args.text.now (eqb-true _ 0 (sym c.if-is_empty.ensures)); within = tt }
 
-pub returns-then-not-is_ascii_digit : goal.returns-then-not-is_ascii_digit
-returns-then-not-is_ascii_digit c = record { value = none_other c.args.largest c.args.text.now (c.loop-b.invariant.1 ∙ digits_not _ _ c.loop-b-test.true c.if-not-is_ascii_digit.ensures.value); within = tt }
+pub returns-then-not-is_digit : goal.returns-then-not-is_digit
+returns-then-not-is_digit c = record { value = none_other c.args.largest c.args.text.now (c.loop-b.invariant.1 ∙ digits_not _ _ c.loop-b-test.true c.if-not-is_digit.ensures); within = tt }
 
 pub returns-then-n-from : goal.returns-then-n-from
 returns-then-n-from c =
@@ -20,7 +20,7 @@ returns-then-n-from c =
 pub loop-b-preserved : goal.loop-b-preserved
 loop-b-preserved c = (
   omega arith,
-  c.loop-b.invariant.1 ∙ digits_more _ _ c.loop-b-test.true c.if-not-is_ascii_digit.ensures.value,
+  c.loop-b.invariant.1 ∙ digits_more _ _ c.loop-b-test.true c.if-not-is_digit.ensures,
   c.loop-b.invariant.2 ∙ value_more c.args.text.now c.loop-b.b-index c.loop-b.n c.loop-b-test.true ∙ ap (λ x. value (c.loop-b.n * 10 + x) (drop (c.loop-b.b-index + 1) c.args.text.now)) (sym c.from.ensures),
 )
 
