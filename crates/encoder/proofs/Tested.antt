@@ -1,5 +1,6 @@
 -- What iterators test and count, in the words of the specs. Assumes nothing.
-use Rattle.std.proofs.Common.{◌≡◌, ℕ, zero, suc, ◌+◌, ◌≤◌, Bool, eqb, Some, None, Option, true, false, cond, ◌&&◌, ◌||◌, List, [], ◌∷◌, ◌++◌, length, get_or, take, drop, Bor, ◌<◌, drop-cons, MatchOption, unwrap_or, sym, refl, ap, ◌∙◌, ap₂, add-zero, add-one, length-append, arith}
+use Rattle.std.proofs.Common.{◌≡◌, ℕ, zero, suc, ◌+◌, ◌≤◌, Bool, eqb, Some, None, Option, true, false, cond, ◌&&◌, ◌||◌, List, [], ◌∷◌, ◌++◌, length, get_or, take, drop, Bor, ◌<◌, drop-cons, MatchOption, subst, sym, refl, ap, ◌∙◌, ap₂, add-zero, add-one, length-append, arith}
+use Rattle.std.specs.Option.{IsSome}
 use Rattle.std.specs.List.{list_all, list_any, filter, range_with_len}
 use Rattle.std.proofs.lemmas.List.{take_all}
 use Rattle.std.proofs.lemmas.List.Elements.{filter-append}
@@ -86,8 +87,13 @@ some_owner q owner c none some = some_in_list q owner None ∙ some_same (λ r. 
     at None = none
     at (Some x) = some x
 
--- `next` on what is left of a list
-pub next_is : (xs ys s : List ℕ) (k : ℕ) (r : Option (Bor ℕ)) (P : Type 0) → xs ≡ drop k s → k < length s → MatchOption r ((length xs ≡ 0) × P) (λ x. xs ≡ x.now ∷ ys) → (d : Bor ℕ) →
-    (ys ≡ drop (suc k) s) × ((unwrap_or r d).now ≡ get_or s k 0)
-next_is xs ys s k None P e h m d = absurd (let z = ap length (sym (drop-cons s k 0 h) ∙ sym e) in let y = m.0 in omega arith)
-next_is xs ys s k (Some x) P e h m d = let c = drop-cons s k 0 h in (cc, cc)
+-- `next` on what is left of a list, which is not empty
+pub next_stands : (xs ys s : List ℕ) (k : ℕ) (r : Option (Bor ℕ)) (P : Type 0) → xs ≡ drop k s → k < length s → MatchOption r ((length xs ≡ 0) × P) (λ x. xs ≡ x.now ∷ ys) → IsSome r
+next_stands xs ys s k None P e h m = absurd (let z = ap length (sym (drop-cons s k 0 h) ∙ sym e) in let y = m.0 in omega arith)
+next_stands xs ys s k (Some x) P e h m = refl
+
+pub next_is : (xs ys s : List ℕ) (k : ℕ) (r : Option (Bor ℕ)) (P : Type 0) → xs ≡ drop k s → MatchOption r ((length xs ≡ 0) × P) (λ x. xs ≡ x.now ∷ ys) → k < length s → (x : Bor ℕ) → r ≡ Some x →
+    (ys ≡ drop (suc k) s) × (x.now ≡ get_or s k 0)
+next_is xs ys s k r P e m h x w =
+    let f : xs ≡ x.now ∷ ys = subst (λ (o : Option (Bor ℕ)). MatchOption o ((length xs ≡ 0) × P) (λ y. xs ≡ y.now ∷ ys)) w m in
+    let c = drop-cons s k 0 h in (cc, cc)

@@ -47,7 +47,7 @@ pub(crate) fn place(owners: &[Option<u16>], symbols: &[u8], word: &mut [u8])
         *place = if owned(owners, c) {
             0
         } else {
-            *rest.next().unwrap_or(&0)
+            *rest.next().unwrap()
         };
     }
 }

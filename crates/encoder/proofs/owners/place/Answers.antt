@@ -4,7 +4,7 @@ use Rattle.linear.specs.Filling.{free_of, owned_by}
 use Rattle.linear.proofs.Tests.{no_both}
 use Rattle.linear.proofs.Counts.{count_below}
 use Rattle.linear.proofs.Placing.{count_owned, count_free, count_none, placed_none, placed_more}
-use Rattle.encoder.proofs.Tested.{next_is}
+use Rattle.encoder.proofs.Tested.{next_is, next_stands}
 use Rattle.encoder.proofs.owners.place.Goals as goal
 use Rattle.encoder.proofs.owners.place.Goals.{then-owned, else-owned}
 
@@ -25,9 +25,16 @@ loop-c-preserved c =
           let o : owned_by c.args.owners.now (length c.args.owners.now) c.loop-c.c ≡ false = sym c.owned.ensures ∙ w.if-owned.false in
           let e = count_free c.args.owners.now (length c.args.owners.now) c.loop-c.c o in
           let b = count_below (length c.args.word.now) c.loop-c.c (free_of c.args.owners.now (length c.args.owners.now)) c.loop-c-test.true (ap not o) in
-          let n = next_is c.loop-c.rest.rest.now w.next.new.self.rest.now c.args.symbols.now (count c.loop-c.c (free_of c.args.owners.now (length c.args.owners.now))) w.next.result _ c.loop-c.invariant.0 (omega arith) w.next.ensures.steps _ in (
+          let n = next_is c.loop-c.rest.rest.now w.next.new.self.rest.now c.args.symbols.now (count c.loop-c.c (free_of c.args.owners.now (length c.args.owners.now))) w.next.result _ c.loop-c.invariant.0 w.next.ensures.steps (omega arith) w.unwrap.result w.unwrap.ensures in (
             ap (λ (i : Iter ℕ). i.rest.now) w.rest-is ∙ n.0 ∙ ap (λ (k : ℕ). drop k c.args.symbols.now) (sym e),
             placed_more (length c.args.owners.now) c.args.owners.now c.args.symbols.now c.loop-c.word c.loop-c.c c.if-owned.place (c.loop-c.c + 1) (omega arith) (omega arith) c.loop-c.invariant.1
-                (λ x. absurd (no_both x o)) (λ x. w.place-is ∙ ap (λ (y : Bor ℕ). y.now) w.unwrap_or.ensures ∙ n.1),
+                (λ x. absurd (no_both x o)) (λ x. w.place-is ∙ n.1),
           ))
     ]
+
+pub unwrap-requires : goal.unwrap-requires
+unwrap-requires c =
+    let free = free_of c.args.owners.now (length c.args.owners.now) in
+    let o : owned_by c.args.owners.now (length c.args.owners.now) c.loop-c.c ≡ false = sym c.owned.ensures ∙ c.if-owned.false in
+    let b = count_below (length c.args.word.now) c.loop-c.c free c.loop-c-test.true (ap not o) in
+    next_stands c.loop-c.rest.rest.now c.next.new.self.rest.now c.args.symbols.now (count c.loop-c.c free) c.next.result _ c.loop-c.invariant.0 (omega arith) c.next.ensures.steps
