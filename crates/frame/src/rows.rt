@@ -24,10 +24,7 @@ pub fn row_end(edges: &[Edge], first: usize, r: u16) -> usize
     ensures same { (x : ℕ) → first ≤ x → x < result → row_at edges.now x ≡ r }
     ensures next { result < length edges.now → row_at edges.now result ≢ r }
 {
-    match leaves_row(&edges[first..], r) {
-        Some(n) => first + n,
-        None => edges.len(),
-    }
+    leaves_row(&edges[first..], r).map_or(edges.len(), |n| first + n)
 }
 
 impl<'a, F: Field, J: Joiner> Joins<'a, F, J> {
