@@ -6,6 +6,8 @@ ghost use Rattle.joiner.specs.Costs.{Low};
 use crate::codes::times;
 use field::Field;
 
+// Stays (plain): the three places that make these read them from a header or from a slip's numbers; one function for them would have to
+// require of its caller the bounds that are asked of whoever makes them, and tell both fields again.
 // The sizes of a code: q words in a block, and n columns.
 #[derive(Clone, Copy)]
 pub struct Sizes {
