@@ -1,5 +1,5 @@
-ghost use Rattle.std.specs.Prelude.{◌≡◌, ℕ, ◌+◌, ◌-◌, ◌*◌, ◌<◌, ◌≤◌, length};
-ghost use Rattle.frame.specs.Blocks.{block, blocks, «from_on», Wrote, Filled};
+ghost use Rattle.std.specs.Prelude.{◌≡◌, ℕ, ◌+◌, ◌-◌, ◌<◌, ◌≤◌, length};
+ghost use Rattle.frame.specs.Blocks.{block, «from_on», Wrote, Filled};
 ghost use Rattle.frame.specs.Joins.{HasScratch};
 ghost use Rattle.frame.specs.Vectors.{minus};
 ghost use Rattle.tree.specs.Rows.{gathered, around_at, around_pair, around_pairs};

@@ -1,7 +1,6 @@
-ghost use Rattle.std.specs.Prelude.{◌≡◌, ℕ, ◌+◌, ◌*◌, ◌/◌, ◌<◌, ◌≤◌, length, take};
-ghost use Rattle.frame.specs.Blocks.{block, blocks, put};
+ghost use Rattle.std.specs.Prelude.{◌≡◌, ◌+◌, ◌*◌, ◌<◌, ◌≤◌, length, take};
+ghost use Rattle.frame.specs.Blocks.{block, put};
 ghost use Rattle.tree.specs.Rows.{gathered};
-ghost use Rattle.joiner.specs.Costs.{Low};
 
 use crate::codes::times;
 use field::Field;

@@ -1,4 +1,4 @@
-ghost use Rattle.std.specs.Prelude.{◌≡◌, ℕ, length, if◌then◌else◌, is_ok, Some, None};
+ghost use Rattle.std.specs.Prelude.{◌≡◌, ℕ, length, is_ok, Some, None, if◌then◌else◌};
 ghost use Rattle.code.specs.Views.{view};
 ghost use Rattle.tree.specs.Frame.{outcome, grants, concludes, running, word_told, parts_of, word_of};
 ghost use Rattle.tree.specs.Run.{RunsStand};

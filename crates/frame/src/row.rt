@@ -1,5 +1,4 @@
-ghost use Rattle.std.specs.Prelude.{◌≡◌, ℕ, ◌+◌, ◌-◌, ◌*◌, ◌<◌, ◌≤◌, length};
-ghost use Rattle.frame.specs.Blocks.{block, blocks};
+ghost use Rattle.std.specs.Prelude.{◌≡◌, ◌+◌, ◌-◌, ◌≤◌, length};
 ghost use Rattle.frame.specs.Joins.{HasScratch};
 ghost use Rattle.frame.specs.Row.{Invertible, LowBlocks, coefficient_at, row_vectors, RowDone};
 ghost use Rattle.tree.specs.Rows.{row_pairs};

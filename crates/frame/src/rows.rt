@@ -1,5 +1,4 @@
-ghost use Rattle.std.specs.Prelude.{◌≡◌, ℕ, suc, ◌+◌, ◌-◌, ◌*◌, ◌<◌, ◌≤◌, length, ◌≢◌, not, ◌==◌, position};
-ghost use Rattle.frame.specs.Blocks.{block, blocks};
+ghost use Rattle.std.specs.Prelude.{◌≡◌, ℕ, suc, ◌+◌, ◌<◌, ◌≤◌, length, ◌≢◌, not, ◌==◌, position};
 ghost use Rattle.frame.specs.Joins.{HasScratch};
 ghost use Rattle.frame.specs.Row.{Invertible, LowBlocks};
 ghost use Rattle.frame.specs.AllRows.{starts, rows_pairs, RowsTo};

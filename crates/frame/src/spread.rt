@@ -1,5 +1,5 @@
-ghost use Rattle.std.specs.Prelude.{◌≡◌, ℕ, ◌+◌, ◌-◌, ◌*◌, ◌<◌, ◌≤◌, length};
-ghost use Rattle.frame.specs.Blocks.{block, blocks, Filled};
+ghost use Rattle.std.specs.Prelude.{◌+◌, ◌≤◌, length};
+ghost use Rattle.frame.specs.Blocks.{Filled};
 ghost use Rattle.frame.specs.Joins.{HasScratch};
 ghost use Rattle.frame.specs.Row.{Invertible, coefficient_at, row_vectors};
 

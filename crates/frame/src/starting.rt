@@ -1,4 +1,4 @@
-ghost use Rattle.std.specs.Prelude.{◌≡◌, ℕ, ◌+◌, ◌*◌, ◌<◌, ◌≤◌, length, if◌then◌else◌, Some, None};
+ghost use Rattle.std.specs.Prelude.{◌≡◌, ℕ, ◌+◌, ◌<◌, ◌≤◌, length, Some, None, if◌then◌else◌};
 ghost use Rattle.field.specs.Tables.{Tables};
 ghost use Rattle.code.specs.Views.{view};
 ghost use Rattle.tree.specs.Frame.{outcome, grants, starts, numbers_of, loading, running, slip_given};

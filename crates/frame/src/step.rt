@@ -1,4 +1,4 @@
-ghost use Rattle.std.specs.Prelude.{◌≡◌, ℕ, ◌+◌, ◌*◌, ◌<◌, ◌≤◌, length};
+ghost use Rattle.std.specs.Prelude.{◌≡◌, ◌<◌, ◌≤◌};
 ghost use Rattle.frame.specs.Blocks.{block, blocks};
 ghost use Rattle.joiner.specs.Costs.{Low};
 ghost use Rattle.frame.specs.Joins.{turned, stepped};

@@ -1,6 +1,6 @@
-ghost use Rattle.std.specs.Prelude.{◌≡◌, ℕ, ◌+◌, ◌-◌, ◌*◌, ◌<◌, ◌≤◌, length, nat_eq, slice_index};
+ghost use Rattle.std.specs.Prelude.{◌≡◌, ℕ, ◌+◌, ◌*◌, ◌<◌, ◌≤◌, length, nat_eq, slice_index};
 ghost use Rattle.tree.specs.Over.{count};
-ghost use Rattle.frame.specs.Blocks.{block, blocks, put, Filled};
+ghost use Rattle.frame.specs.Blocks.{block, blocks, put};
 ghost use Rattle.frame.specs.Row.{LowBlocks};
 ghost use Rattle.frame.specs.Columns.{added, word, entry_at, Rising, HasAt, SummedTo};
 

@@ -1,5 +1,5 @@
-ghost use Rattle.std.specs.Prelude.{◌≡◌, ℕ, ◌+◌, ◌-◌, ◌*◌, ◌<◌, ◌≤◌, length};
-ghost use Rattle.frame.specs.Blocks.{block, blocks, «from_on», Filled};
+ghost use Rattle.std.specs.Prelude.{◌≡◌, ℕ, ◌+◌, ◌-◌, ◌<◌, ◌≤◌};
+ghost use Rattle.frame.specs.Blocks.{block, «from_on», Filled};
 ghost use Rattle.frame.specs.Joins.{HasScratch};
 ghost use Rattle.joiner.specs.Costs.{Low};
 ghost use Rattle.tree.specs.Rows.{back, forth, back_pairs, forth_pairs};

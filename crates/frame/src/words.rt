@@ -1,4 +1,4 @@
-ghost use Rattle.std.specs.Prelude.{◌≡◌, ℕ, ◌+◌, ◌-◌, ◌*◌, ◌<◌, ◌≤◌, min, length, slice_index};
+ghost use Rattle.std.specs.Prelude.{◌≡◌, ◌+◌, ◌≤◌, min, length, slice_index};
 ghost use Rattle.std.specs.List.{fold};
 ghost use Rattle.tree.specs.Rows.{tabled};
 ghost use Rattle.frame.specs.Words.{Written, store_at};
