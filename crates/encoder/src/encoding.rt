@@ -18,6 +18,8 @@ use field::Field;
 
 // Encodes once the opening tests are passed.
 // Stays (rule): field, code and scratch are lent by the caller, each by a parameter of its own, to encode as to extract.
+// Stays (plain): `extract_opened` eliminates by the same lines. A function for both would hand back the elimination and its owners, and
+// promise of each what the lines now show in place.
 fn encode_opened<F: Field>(
     field: &F,
     code: &Code,

@@ -10,7 +10,8 @@ use std::process::Abort;
 use std::test::Fail;
 use tower::Tower;
 
-// Stays (plain): a constant's value calls no function, and a code borrows its table, so with a function each test would bind the tables first.
+// Stays (plain): a constant's value calls no function, and a code borrows its table, so with a function each test would bind the tables
+// first.
 const EDGES: [Edge; 6] = [
     Edge {
         row: 0,
@@ -115,6 +116,7 @@ fn is_untouched(rt: &impl Abort, buffer: &[u8]) {
 }
 
 // A refused call leaves every buffer as it was.
+// Stays (plain): `refuses_extracting` differs in the call. One function for both would take the call as a closure, and each use would name it.
 fn refuses_encoding(
     rt: &impl Abort,
     order: u8,
