@@ -1,4 +1,4 @@
-use Rattle.std.proofs.Common.{◌≡◌, ℕ, Bor, Iter, ◌+◌, true, false, not, length, drop, sym, ap, ◌∙◌, arith}
+use Rattle.std.proofs.Common.{◌≡◌, ℕ, Iter, ◌+◌, true, false, not, length, drop, sym, ap, ◌∙◌, arith}
 use Rattle.linear.specs.Count.{count}
 use Rattle.linear.specs.Filling.{free_of, owned_by}
 use Rattle.linear.proofs.Tests.{no_both}
