@@ -116,7 +116,8 @@ fn is_untouched(rt: &impl Abort, buffer: &[u8]) {
 }
 
 // A refused call leaves every buffer as it was.
-// Stays (plain): `refuses_extracting` differs in the call. One function for both would take the call as a closure, and each use would name it.
+// Stays (plain): `refuses_extracting` differs in the call. One function for both would take the call as a closure, and each use would
+// name it.
 fn refuses_encoding(
     rt: &impl Abort,
     order: u8,
