@@ -13,6 +13,7 @@ mod products;
 // A binary field of order 2^p: bit i of a code is the coefficient of power i, the sum is exclusive or,
 // and the product is reduced by an irreducible polynomial of degree p, written the same way.
 // Products and inverses stand in tables, 64 bytes a row, since they are asked for in innermost loops.
+// Stays (plain): each table is one list, as `grid` defines it; with an array of rows every fact of it would speak of a list of lists.
 #[derive(Clone, Copy)]
 pub struct Binary {
     p: u8,

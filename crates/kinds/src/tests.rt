@@ -28,6 +28,7 @@ fn primes(rt: HostRuntime) {
 }
 
 // A number p and a polynomial, with the refusal of the binary field.
+// Stays (plain): crate binary tests the like by itself; here each of the three kinds has its table.
 const BINARIES: [(u8, u16, Option<FieldRefusal>); 4] = [
     (7, 131, Some(FieldRefusal::Order)),
     (4, 35, Some(FieldRefusal::Degree)),

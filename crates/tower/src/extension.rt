@@ -13,6 +13,7 @@ pub use make::make_tower;
 
 // A tower on copied tables of a base of order r: code l + r × h means the pair l + h·y.
 // Its own tables stand beside them, 64 bytes a row, so that no answer divides or searches.
+// Stays (plain): each table is one list, as `grid` defines it; with an array of rows every fact of it would speak of a list of lists.
 #[derive(Clone, Copy)]
 pub struct Tower {
     pairs: Pairs,

@@ -23,6 +23,7 @@ impl Binary {
 }
 
 // The field of a rule, with its tables filled.
+// Stays (plain): the field names p, the polynomial and q itself, since its meaning and its facts speak of them, and not of a rule.
 fn tabled(rule: Rule) -> Binary
     ensures degree { result.p ≡ rule.p }
     ensures polynomial { result.polynomial ≡ rule.polynomial }
