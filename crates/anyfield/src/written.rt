@@ -96,7 +96,7 @@ fn is_tower(name: &[u8]) -> bool
 }
 
 // How often the word `tower` comes, and the word behind.
-// Stays (plain): `enumerate` gives a count only beside a word, and it is told also where none follows.
+// Stays (plain): `take_while(..).count()` takes the word behind too and does not give it back.
 fn towers_in_front<'a>(parts: &mut Parts<'a>) -> (usize, Option<&'a [u8]>)
     requires { length (pieces_of parts.old) < 2 ^ 64 }
     ensures { raises result.0 (base_from (option_map (λ x. x.now) result.1) (pieces_of parts.new)) ≡ field_of (pieces_of parts.old) }

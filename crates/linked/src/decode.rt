@@ -8,6 +8,7 @@ use frame::{LoadingSlip, RunningSlip, conclude, load, open, read, round, start};
 use joiner::Joiner;
 
 // What became of a frame: the rounds made, what the last one told, and whether the word was concluded.
+// Stays (rule): it is a struct of C, which has no options, so `concluded` stands beside numbers that are told also where it is false.
 #[repr(C)]
 #[derive(Clone, Copy)]
 pub struct Decoded {

@@ -11,6 +11,7 @@ use field::Field;
 use joiner::{Full, Selective};
 
 // The field's degree and polynomial, the code's numbers, and which joiner.
+// Stays (rule): it is a struct of C, where `selective` is a bool; an enum there could hold a value that is no case.
 #[repr(C)]
 #[derive(Clone, Copy)]
 pub struct Shape {
@@ -58,18 +59,16 @@ fn decoded_by<'a>(
     let code = &code;
     // Stays (plain): the joiners are two types, so that a frame never asks which it is; a value of either would.
     Some(if shape.selective {
-        let joiner = &Selective;
         Decoder {
             field,
-            joiner,
+            joiner: &Selective,
             code,
         }
         .batch(costs, area, distances, words, decoded)
     } else {
-        let joiner = &Full;
         Decoder {
             field,
-            joiner,
+            joiner: &Full,
             code,
         }
         .batch(costs, area, distances, words, decoded)

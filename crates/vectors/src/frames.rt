@@ -18,7 +18,8 @@ enum Slip {
     Running(RunningSlip),
 }
 
-// Stays (plain): the next three differ in the kind of slip and in how it is lent; one for all would take a closure that matches.
+// Stays (plain): the next five differ in the kind of slip and in how it is lent or taken; one for all would take a closure
+// that matches.
 fn loading(slip: &Option<Slip>) -> Result<&LoadingSlip, Stop> {
     match slip {
         Some(Slip::Loading(slip)) => Ok(slip),
@@ -37,6 +38,27 @@ fn running_on(slip: &mut Option<Slip>) -> Result<&mut RunningSlip, Stop> {
     match slip {
         Some(Slip::Running(slip)) => Ok(slip),
         _ => Err(Stop::Lacks),
+    }
+}
+
+// Takes a slip of the kind out of hand; one of the other kind is kept.
+fn take_loading(slip: &mut Option<Slip>) -> Result<LoadingSlip, Stop> {
+    match slip.take() {
+        Some(Slip::Loading(taken)) => Ok(taken),
+        other => {
+            *slip = other;
+            Err(Stop::Lacks)
+        }
+    }
+}
+
+fn take_running(slip: &mut Option<Slip>) -> Result<RunningSlip, Stop> {
+    match slip.take() {
+        Some(Slip::Running(taken)) => Ok(taken),
+        other => {
+            *slip = other;
+            Err(Stop::Lacks)
+        }
     }
 }
 
@@ -70,20 +92,15 @@ impl Frame {
 
     pub fn start(&mut self, code: &Code) -> Result<Reply, Stop> {
         let area = self.area.as_mut().ok_or(Stop::Lacks)?;
-        match self.slip.take() {
-            Some(Slip::Loading(slip)) => match frame::start(code, slip, area.as_mut_slice()) {
-                Ok(slip) => {
-                    self.slip = Some(Slip::Running(slip));
-                    Ok(Reply::Done)
-                }
-                Err(NotStarted { refusal, slip }) => {
-                    self.slip = Some(Slip::Loading(slip));
-                    Err(refusal.into())
-                }
-            },
-            other => {
-                self.slip = other;
-                Err(Stop::Lacks)
+        let slip = take_loading(&mut self.slip)?;
+        match frame::start(code, slip, area.as_mut_slice()) {
+            Ok(slip) => {
+                self.slip = Some(Slip::Running(slip));
+                Ok(Reply::Done)
+            }
+            Err(NotStarted { refusal, slip }) => {
+                self.slip = Some(Slip::Loading(slip));
+                Err(refusal.into())
             }
         }
     }
@@ -131,19 +148,12 @@ impl Frame {
         let area = self.area.as_ref().ok_or(Stop::Lacks)?;
         let size = size.unwrap_or(code.header().columns as usize);
         let mut word = vec![in heap; 0u8; size]?;
-        match self.slip.take() {
-            Some(Slip::Running(slip)) => {
-                match frame::conclude(field, code, slip, area.as_slice(), word.as_mut_slice()) {
-                    Ok(rounds) => Ok(Reply::Concluded(rounds, word)),
-                    Err(NotConcluded { refusal, slip }) => {
-                        self.slip = Some(Slip::Running(slip));
-                        Err(refusal.into())
-                    }
-                }
-            }
-            other => {
-                self.slip = other;
-                Err(Stop::Lacks)
+        let slip = take_running(&mut self.slip)?;
+        match frame::conclude(field, code, slip, area.as_slice(), word.as_mut_slice()) {
+            Ok(rounds) => Ok(Reply::Concluded(rounds, word)),
+            Err(NotConcluded { refusal, slip }) => {
+                self.slip = Some(Slip::Running(slip));
+                Err(refusal.into())
             }
         }
     }

@@ -25,7 +25,7 @@ fn run(rt: &HostRuntime) -> io::Result<()> {
     let mut input = BufReader::new(rt.alloc(), rt.stdin())?;
     let mut hand = Hand::empty(rt.alloc());
     let mut line = Vec::new(rt.alloc());
-    // Stays (rule): a `while` would have to be proved to end, which of a stream cannot be, or be let wait forever.
+    // Stays (rule): a `while` over a stream cannot be proved to end, and without a `Wait` bound every loop must.
     for _ in 0..u64::MAX {
         if !take_line(&mut input, &mut line)? {
             break;

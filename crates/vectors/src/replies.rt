@@ -108,33 +108,38 @@ impl<T: Drop> From<AllocFailed<T>> for Stop {
     }
 }
 
-// Stays (plain): one impl for all refusals would overlap those for memory above, so each refusal has its own.
-impl From<FieldRefusal> for Stop {
-    fn from(refusal: FieldRefusal) -> Stop {
-        Stop::Refused(Refusal::Field(refusal))
+impl<R: Into<Refusal>> From<R> for Stop {
+    fn from(refusal: R) -> Stop {
+        Stop::Refused(refusal.into())
     }
 }
 
-impl From<JoinRefusal> for Stop {
-    fn from(refusal: JoinRefusal) -> Stop {
-        Stop::Refused(Refusal::Join(refusal))
+impl From<FieldRefusal> for Refusal {
+    fn from(refusal: FieldRefusal) -> Refusal {
+        Refusal::Field(refusal)
     }
 }
 
-impl From<FrameRefusal> for Stop {
-    fn from(refusal: FrameRefusal) -> Stop {
-        Stop::Refused(Refusal::Frame(refusal))
+impl From<JoinRefusal> for Refusal {
+    fn from(refusal: JoinRefusal) -> Refusal {
+        Refusal::Join(refusal)
     }
 }
 
-impl From<CoderRefusal> for Stop {
-    fn from(refusal: CoderRefusal) -> Stop {
-        Stop::Refused(Refusal::Coder(refusal))
+impl From<FrameRefusal> for Refusal {
+    fn from(refusal: FrameRefusal) -> Refusal {
+        Refusal::Frame(refusal)
     }
 }
 
-impl From<SampleRefusal> for Stop {
-    fn from(refusal: SampleRefusal) -> Stop {
-        Stop::Refused(Refusal::Sample(refusal))
+impl From<CoderRefusal> for Refusal {
+    fn from(refusal: CoderRefusal) -> Refusal {
+        Refusal::Coder(refusal)
+    }
+}
+
+impl From<SampleRefusal> for Refusal {
+    fn from(refusal: SampleRefusal) -> Refusal {
+        Refusal::Sample(refusal)
     }
 }

@@ -19,7 +19,8 @@ pub struct Tables {
 }
 
 impl Tables {
-    // Reads a sheet's tables.
+    // Reads a sheet's tables. The outer level says whether there was memory to read it with, the inner whether the sheet
+    // is accepted: a refused sheet is a reply like an accepted one, and no stop.
     pub fn read(heap: Global, text: &[u8]) -> Result<Result<(Numbers, Tables), SheetFault>, Stop> {
         let edge = Edge {
             row: 0,
@@ -61,7 +62,7 @@ fn collect_lines<R: BufRead>(
     line: &mut Vec<u8>,
     text: &mut Vec<u8>,
 ) -> std::io::Result<()> {
-    // Stays (rule): a `while` would have to be proved to end, which of a stream cannot be, or be let wait forever.
+    // Stays (rule): a `while` over a stream cannot be proved to end, and without a `Wait` bound every loop must.
     for _ in 0..u64::MAX {
         if !take_line(input, line)? {
             break;
