@@ -59,16 +59,18 @@ fn decoded_by<'a>(
     let code = &code;
     // Stays (plain): the joiners are two types, so that a frame never asks which it is; a value of either would.
     Some(if shape.selective {
+        let joiner = &Selective;
         Decoder {
             field,
-            joiner: &Selective,
+            joiner,
             code,
         }
         .batch(costs, area, distances, words, decoded)
     } else {
+        let joiner = &Full;
         Decoder {
             field,
-            joiner: &Full,
+            joiner,
             code,
         }
         .batch(costs, area, distances, words, decoded)
