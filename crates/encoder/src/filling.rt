@@ -18,6 +18,7 @@ impl<'f, F: Field> Elimination<'f, F> {
         ensures is { result ≡ row_sum (F.Field.meaning self.now.field.now) (laid matrix.now self.now.rows self.now.columns) word.now r }
         ensures code { result < (F.Field.meaning self.now.field.now).order }
     {
+        // Stays (plain): `place` finds each entry and knows that it lies in the bytes; a slice of the row would need that of both its ends.
         let mut sum = 0;
         for (j, symbol) in word.iter().enumerate() {
             let part = self.product(matrix[self.place(r, j)], *symbol);

@@ -8,6 +8,7 @@ use code::table::Edge;
 use field::Field;
 
 // A row's coefficients times the symbols of its columns, summed: the row's edges stand from `first` to `end`.
+// Stays (plain): the encoder sums a row's edges too, but picks them out of all edges, where here they stand one after another.
 fn row_sum<F: Field>(field: &F, edges: &[Edge], word: &[u8], r: u16, first: usize, end: usize) -> u8
     requires range { (first ≤ end) × (end ≤ length edges.now) }
     requires summable { Summable (F.Field.meaning field.now) edges.now word.now }

@@ -59,11 +59,10 @@ fn agree<F: Field>(rt: &impl Abort, field: &F, ceiling: u16) -> Result<(), Fail>
 
 // A low ceiling makes many ties.
 fn agree_at_ceilings<F: Field>(rt: &impl Abort, field: &F) -> Result<(), Fail> {
-    agree(rt, field, 1)?;
-    agree(rt, field, 3)?;
-    agree(rt, field, 31)?;
-    agree(rt, field, 64)?;
-    agree(rt, field, 1023)
+    for ceiling in [1, 3, 31, 64, 1023] {
+        agree(rt, field, ceiling)?;
+    }
+    Ok(())
 }
 
 #[test]

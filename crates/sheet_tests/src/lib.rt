@@ -27,6 +27,7 @@ mod tests {
             .ok_or_else(|| Fail::new("the sheet is read"))
     }
 
+    // Stays (plain): the number that a report names is what is tested here, so it is written as a number.
     fn refused(
         rt: &impl Abort,
         text: &[u8],
