@@ -18,7 +18,8 @@ impl<'f, F: Field> Elimination<'f, F> {
         ensures is { result ≡ row_sum (F.Field.meaning self.now.field.now) (laid matrix.now self.now.rows self.now.columns) word.now r }
         ensures code { result < (F.Field.meaning self.now.field.now).order }
     {
-        // Stays (plain): `place` finds each entry and knows that it lies in the bytes; a slice of the row would need that of both its ends.
+        // Stays (plain): the sum is of the laid matrix, by row and column, and `place` tells where just such an entry lies; a slice of
+        // the row would be tied to it by one more step.
         let mut sum = 0;
         for (j, symbol) in word.iter().enumerate() {
             let part = self.product(matrix[self.place(r, j)], *symbol);
