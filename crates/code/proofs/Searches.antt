@@ -3,12 +3,23 @@ use Rattle.std.proofs.Common.{◌≡◌, ℕ, zero, suc, ◌+◌, ◌-◌, ◌<�
 use Rattle.std.proofs.lemmas.Bool.{cases_eq}
 use Rattle.std.proofs.lemmas.Iterator.Adapters.{position_from-zero}
 use Rattle.std.specs.List.{list_any, position, position_from}
-use Rattle.std.specs.Option.{MatchOption, IfSome}
+use Rattle.std.specs.Option.{MatchOption, IfSome, is_some}
 use Rattle.code.specs.Admission.{any, at, after, first, first_bad}
 
 pub any_list : {A : Type 0} (t : A → Bool) (xs : List A) → list_any t xs ≡ any t xs
 any_list t [] = refl
 any_list t (x ∷ xs) = ap (λ b. t x || b) (any_list t xs)
+
+found : (b : Bool) (k : ℕ) (o : Option ℕ) (r : Bool) → is_some o ≡ r → is_some (cond b (Some k) o) ≡ (b || r)
+found true k o r e = refl
+found false k o r e = e
+
+some_place : {A : Type 0} (t : A → Bool) (k : ℕ) (xs : List A) → is_some (position_from t k xs) ≡ any t xs
+some_place t k [] = refl
+some_place t k (x ∷ xs) = found (t x) k _ _ (some_place t (k + 1) xs)
+
+pub any_position : {A : Type 0} (t : A → Bool) (xs : List A) → is_some (position t xs) ≡ any t xs
+any_position t xs = ap is_some (position_from-zero t xs) ∙ some_place t 0 xs
 
 -- what is known of the answer of a search of the numbers from `low` on, below `end`
 abbrev pub Found : (ℕ → Bool) → ℕ → ℕ → Option ℕ → Type 0
