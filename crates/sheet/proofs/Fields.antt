@@ -1,42 +1,44 @@
--- Where the fields of a line stand, one after another.
-use Rattle.std.proofs.Common.{◌≡◌, ℕ, zero, suc, ◌+◌, ◌<◌, ◌≤◌, List, [], ◌∷◌, length, get_or, drop, sym, ap, ◌∙◌, ⊎_elim, arith}
-use Rattle.std.proofs.lemmas.List.{get_or-drop, drop-drop, length-drop}
+-- The line behind a line's first field, and what its fields are.
+use Rattle.std.proofs.Common.{◌≡◌, ℕ, suc, ◌+◌, ◌<◌, ◌≤◌, Bool, true, false, cond, ◌&&◌, eqb, leb, List, [], ◌∷◌, length, get_or, drop, sym, refl, ap, ◌∙◌, ⊎_elim, arith}
 use Rattle.std.proofs.lemmas.Bool.{cases_lt}
-use Rattle.sheet.specs.Pieces.{split, first, start}
+use Rattle.sheet.specs.declared.fault.Place.{Place}
+use Rattle.sheet.specs.Pieces.{first, start, fields}
+use Rattle.sheet.specs.Words.{letter, number, dash, bytes_of, word_of, Cell}
+use Rattle.sheet.specs.Lines.{cell, cell_at}
 use Rattle.sheet.proofs.Splits.{split_some, split_rest, split_last}
 
--- field i of the line starts at byte at
-pub record Stands (l : List ℕ) (i at : ℕ) : Type 0 where
-  pub rest : split 9 (drop at l) ≡ drop i (split 9 l)
-  pub begin : at ≡ start i (split 9 l)
-  pub inside : at ≤ length l
+-- how many bytes a field has
+bytes_cond : (s t : Bool) (bs : List ℕ) → bytes_of (cond s (dash bs) (cond t (letter bs) (number bs))) ≡ bs
+bytes_cond true t bs = refl
+bytes_cond false true bs = refl
+bytes_cond false false bs = refl
 
-start_more : (i : ℕ) (ps : List (List ℕ)) → i < length ps → start (suc i) ps ≡ start i ps + length (get_or ps i []) + 1
-start_more i [] h = absurd (omega arith)
-start_more zero (p ∷ ps) h = omega arith
-start_more (suc i) (p ∷ ps) h = omega (arith, start_more i ps (omega arith))
+bytes_word : (bs : List ℕ) → bytes_of (word_of bs) ≡ bs
+unfolding word_of
+bytes_word bs = bytes_cond (eqb (length bs) 1 && eqb (get_or bs 0 0) 45) (eqb (length bs) 1 && (leb 65 (get_or bs 0 0) && leb (get_or bs 0 0) 90)) bs
 
-get_d_add_zero : (ps : List (List ℕ)) (i : ℕ) → get_or (drop i ps) 0 [] ≡ get_or ps i []
-get_d_add_zero ps i = let e : i + 0 ≡ i = omega arith in get_or-drop i ps 0 [] ∙ ap (λ k. get_or ps k []) e
+pub size_is : (p : Place) (l : List ℕ) (at n : ℕ) (w : Cell) → w ≡ cell_at p l at → n ≡ length (bytes_of w.word) → n ≡ length (first 9 (drop at l))
+size_is p l at n w e h = h ∙ ap (λ (v : Cell). length (bytes_of v.word)) e ∙ ap length (bytes_word (first 9 (drop at l)))
 
-pub first_there : (l : List ℕ) (i at : ℕ) → Stands l i at → first 9 (drop at l) ≡ get_or (split 9 l) i []
-first_there l i at s = ap (λ ps. get_or ps 0 []) s.rest ∙ get_d_add_zero (split 9 l) i
+-- the first field ends before the line does
+ends_before : (l : List ℕ) → 1 < length (fields l) → length (first 9 l) < length l
+ends_before l h =
+    ⊎_elim (λ k. k)
+    (λ k. absurd (omega (arith, h, ap length (split_some 9 l), ap length (split_last 9 l k))))
+    (cases_lt (length (first 9 l)) (length l))
 
-more_there : (l : List ℕ) (i at : ℕ) → Stands l i at → i + 1 < length (split 9 l) → at + length (first 9 (drop at l)) < length l
-more_there l i at s h =
-    ⊎_elim (λ k. omega (arith, k, length-drop at l))
-    (λ k. absurd (omega (arith, ap length (split_some 9 (drop at l)), ap length (split_last 9 (drop at l) k), ap length s.rest, length-drop i (split 9 l))))
-    (cases_lt (length (first 9 (drop at l))) (length (drop at l)))
+pub next_inside : (p : Place) (l : List ℕ) (n : ℕ) (w : Cell) → w ≡ cell_at p l 0 → n ≡ length (bytes_of w.word) → 1 < length (fields l) → n + 1 ≤ length l
+next_inside p l n w e h more = omega (arith, size_is p l 0 n w e h, ends_before l more)
 
--- the field behind it
-pub next_there : (l : List ℕ) (i at n : ℕ) → Stands l i at → n ≡ length (first 9 (drop at l)) → i + 1 < length (split 9 l) → Stands l (i + 1) (at + (n + 1))
-next_there l i at n s size k =
-    let lt = more_there l i at s k in
-    let short : length (first 9 (drop at l)) < length (drop at l) = omega (arith, length-drop at l) in
-    let to : at + (length (first 9 (drop at l)) + 1) ≡ at + (n + 1) = omega arith in
-    let on : i + 1 ≡ suc i = omega arith in
-    record {
-      rest = sym (ap (split 9) (drop-drop (length (first 9 (drop at l)) + 1) at l ∙ ap (λ m. drop m l) to)) ∙ sym (split_rest 9 (drop at l) short) ∙ ap (drop 1) s.rest ∙ drop-drop 1 i (split 9 l);
-      begin = omega (arith, s.begin, start_more i (split 9 l) (omega arith), ap (λ m. start m (split 9 l)) on, ap length (first_there l i at s));
-      inside = omega arith;
-    }
+module _ (l rest : List ℕ) (n : ℕ) (size : n ≡ length (first 9 l)) (more : 1 < length (fields l)) (is : rest ≡ drop (n + 1) l) where
+  behind : fields l ≡ first 9 l ∷ fields rest
+  behind = split_some 9 l ∙ ap (λ ps. first 9 l ∷ ps) (split_rest 9 l (ends_before l more) ∙ ap (λ m. fields (drop (m + 1) l)) (sym size) ∙ ap fields (sym is))
+
+  pub count_behind : length (fields rest) + 1 ≡ length (fields l)
+  count_behind = omega (arith, ap length behind)
+
+  pub cell_behind : (p : Place) (i : ℕ) → cell (record { line = p.line; byte = p.byte + (n + 1) }) (fields rest) i ≡ cell p (fields l) (i + 1)
+  cell_behind p i =
+      let on : suc i ≡ i + 1 = omega arith in
+      let byte : p.byte + (n + 1) + start i (fields rest) ≡ p.byte + start (suc i) (first 9 l ∷ fields rest) = omega (arith, size) in
+      (λ j. record { word = word_of (get_or (fields rest) i []); line = p.line; byte = byte j }) ∙ (λ j. cell p (sym behind j) (on j))

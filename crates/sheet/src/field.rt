@@ -1,6 +1,6 @@
-ghost use Rattle.std.specs.Prelude.{◌≡◌, ◌+◌, ◌^◌, ◌<◌, ◌≤◌, length, slice_index};
+ghost use Rattle.std.specs.Prelude.{◌≡◌, ℕ, ◌+◌, ◌^◌, ◌<◌, ◌≤◌, length, slice_index};
 ghost use Rattle.sheet.specs.Pieces.{fields};
-ghost use Rattle.sheet.specs.Words.{word, word_of, seen, kind_of, record_kind};
+ghost use Rattle.sheet.specs.Words.{word, word_of, bytes_of, seen, kind_of, record_kind};
 ghost use Rattle.sheet.specs.Lines.{cell, cell_at, as_number, as_ceiling, numeral, ceiling_of, in_range, ranged};
 
 use crate::fault::{Place, SheetFault};
@@ -58,22 +58,36 @@ impl<'a> Line<'a> {
         }
     }
 
-    // Field i of the line, from 0.
-    // Stays (plain): it is looked for from the line's start, and a line has at most six; `split(..).nth(i)` gives the field's
-    // bytes but not where they start, which its place tells.
-    pub fn field(self, i: usize) -> Part<'a>
-        requires { i < length (fields self.bytes.now) }
-        ensures { seen result ≡ cell self.entry.place (fields self.entry.bytes.now) i }
+    // The line's first field, and the line from the next one on.
+    pub fn split_first(self) -> (Part<'a>, Self)
+        requires { 1 < length (fields self.bytes.now) }
+        ensures first { seen result.0 ≡ cell self.entry.place (fields self.entry.bytes.now) 0 }
+        ensures count { length (fields result.1.bytes.now) + 1 ≡ length (fields self.entry.bytes.now) }
+        ensures rest { (i : ℕ) → cell result.1.place (fields result.1.bytes.now) i ≡ cell self.entry.place (fields self.entry.bytes.now) (i + 1) }
     {
-        let mut from = 0;
-        for _ in 0..i {
-            from += until(&self.bytes[from..], b'\t') + 1;
-        }
-        self.part(from)
+        let first = self.part(0);
+        let next = first.len() + 1;
+        let rest = Line {
+            bytes: &self.bytes[next..],
+            place: Place {
+                line: self.place.line,
+                byte: self.place.byte + next,
+            },
+        };
+        (first, rest)
     }
 }
 
 impl Part<'_> {
+    // How many bytes the field has.
+    fn len(&self) -> usize
+        ensures { result ≡ length (bytes_of (seen self.now).word) }
+    {
+        match self.token {
+            Token::Letter(bytes) | Token::Number(bytes) | Token::Dash(bytes) => bytes.len(),
+        }
+    }
+
     fn plain(&self) -> Option<u16>
         ensures { result ≡ as_number (seen self.now).word }
     {

@@ -59,6 +59,8 @@ fn fits(line: Line, due: Due, kind: Kind) -> bool
 
 // The kind of the line's record; `NotDue` unless it is due and has its number of fields.
 // Stays (proof): with `filter` and `ok_or` the answer was not proved to be the definition's.
+// Inlined, since a call would hand each line over in memory.
+#[inline]
 #[tactic(auto, unfolding(crate::specs::Lines::kind_due))]
 fn kind_due(line: Line, due: Due) -> Result<Kind, SheetFault>
     ensures { result ≡ kind_due due line.entry.place (fields line.entry.bytes.now) }
@@ -127,13 +129,12 @@ fn header_from(line: Line) -> Result<Header, SheetFault>
     ensures answer { result ≡ header_from line.entry.place (fields line.entry.bytes.now) }
     ensures small { IfOk result (λ h. h.order ≤ 64) }
 {
-    header_of(
-        &line.field(1),
-        &line.field(2),
-        &line.field(3),
-        &line.field(4),
-        &line.field(5),
-    )
+    let (_, rest) = line.split_first();
+    let (q, rest) = rest.split_first();
+    let (n, rest) = rest.split_first();
+    let (m, rest) = rest.split_first();
+    let (c, rest) = rest.split_first();
+    header_of(&q, &n, &m, &c, &rest.part(0))
 }
 
 fn edge_from(line: Line, header: Header) -> Result<Edge, SheetFault>
@@ -141,14 +142,19 @@ fn edge_from(line: Line, header: Header) -> Result<Edge, SheetFault>
     requires small { header.order ≤ 64 }
     ensures { result ≡ edge_from header line.entry.place (fields line.entry.bytes.now) }
 {
-    edge_of(header, &line.field(1), &line.field(2), &line.field(3))
+    let (_, rest) = line.split_first();
+    let (row, rest) = rest.split_first();
+    let (column, rest) = rest.split_first();
+    edge_of(header, &row, &column, &rest.part(0))
 }
 
 fn entry_from(line: Line, header: Header) -> Result<Entry, SheetFault>
     requires { length (fields line.bytes.now) ≡ 3 }
     ensures { result ≡ entry_from header line.entry.place (fields line.entry.bytes.now) }
 {
-    entry_of(header, &line.field(1), &line.field(2))
+    let (_, rest) = line.split_first();
+    let (column, rest) = rest.split_first();
+    entry_of(header, &column, &rest.part(0))
 }
 
 // The header that a sheet begins with.

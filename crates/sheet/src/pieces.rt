@@ -10,9 +10,10 @@ pub fn until(bytes: &[u8], stop: u8) -> usize
 }
 
 // How many pieces there are between the bytes `stop`.
+// Each byte gives 1 or 0 to a sum, which takes many at a time, where `filter` and `count` take one.
 pub fn pieces(bytes: &[u8], stop: u8) -> usize
     requires { length bytes.now + 1 < 2 ^ 64 }
     ensures { result ≡ length (split stop bytes.now) }
 {
-    bytes.iter().filter(|b| **b == stop).count() + 1
+    bytes.iter().map(|b| usize::from(*b == stop)).sum::<usize>() + 1
 }
