@@ -4,29 +4,29 @@ ghost use Rattle.linear.specs.Elimination.{Reduced};
 ghost use Rattle.encoder.specs.Bytes.{laid, Products};
 ghost use Rattle.encoder.specs.CheckMatrix.{Listed, matrix_of};
 
-use crate::products;
 use code::code::Code;
 use code::table::Edge;
 use field::Field;
 
 // What stays the same while a matrix is reduced: the field, the products of any two of its codes, and the matrix's size.
-// Stays (plain): the struct does not hold the lent bytes. Each method that writes them would then have to promise that it keeps rows and
-// columns, since a caller knows no size after it otherwise; that is three clauses for the one or two that now say what the bytes hold.
-// Stays (rule): the table of products, and the owners that both calls make, are fixed memory of the greatest size, cut to the size in use.
+// Stays (plain): the struct does not hold the matrix's bytes. Each method that writes them would then have to promise that it keeps rows
+// and columns, since a caller knows no size after it otherwise; that is three clauses for the one or two that now say what the bytes hold.
+// Stays (rule): the table of products and the owners, which both calls make, are fixed memory of the greatest size, cut to the size in use.
 #[derive(Drop)]
 pub(crate) struct Elimination<'f, F: Field> {
     pub(crate) field: &'f F,
-    pub(crate) products: [u8; 4096],
+    pub(crate) products: &'f [u8; 4096],
     pub(crate) rows: usize,
     pub(crate) columns: usize,
-    ghost multiplied: { Products (F.Field.meaning field.now) products },
+    ghost multiplied: { Products (F.Field.meaning field.now) products.now },
     ghost rows_high: { rows ≤ 128 },
     ghost columns_high: { columns ≤ 256 },
 }
 
 impl<'f, F: Field> Elimination<'f, F> {
-    // For matrices of the code's size.
-    pub(crate) fn new(field: &'f F, code: &Code) -> Self
+    // For matrices of the code's size, with the field's table of products.
+    pub(crate) fn new(field: &'f F, products: &'f [u8; 4096], code: &Code) -> Self
+        requires { Products (F.Field.meaning field.now) products.now }
         ensures field { result.field.now ≡ field.now }
         ensures rows { result.rows ≡ code.now.header.rows }
         ensures columns { result.columns ≡ code.now.header.columns }
@@ -34,7 +34,7 @@ impl<'f, F: Field> Elimination<'f, F> {
         let header = code.header();
         Elimination {
             field,
-            products: products::multiply_all(field),
+            products,
             rows: header.rows as usize,
             columns: header.columns as usize,
         }

@@ -12,7 +12,7 @@ ghost use Rattle.encoder.specs.declared.refusal.CoderRefusal.TheVariants.{Depend
 
 use crate::elimination::Elimination;
 use crate::refusal::CoderRefusal;
-use crate::{opening, owners};
+use crate::{opening, owners, products};
 use code::code::Code;
 use field::Field;
 
@@ -31,7 +31,9 @@ fn encode_opened<F: Field>(
     ensures answer { result ≡ refuse (dependent (F.Field.meaning field.now) (check_matrix code.now)) Dependent (Ok tt) }
     ensures word { word.new ≡ (if granted result then the_word (F.Field.meaning field.now) (check_matrix code.now) symbols.now else word.old) }
 {
-    let elimination = Elimination::new(field, code);
+    let mut products = [0; 4096];
+    products::multiply_all(field, &mut products);
+    let elimination = Elimination::new(field, &products, code);
     let mut owners = [None; 128];
     let owners = &mut owners[0..elimination.rows];
     elimination.eliminate(code.edges(), owners, scratch);

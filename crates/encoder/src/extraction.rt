@@ -11,7 +11,7 @@ ghost use Rattle.encoder.specs.declared.refusal.CoderRefusal.TheVariants.{RowFai
 
 use crate::elimination::Elimination;
 use crate::refusal::CoderRefusal;
-use crate::{edges, opening, owners};
+use crate::{edges, opening, owners, products};
 use code::code::Code;
 use field::Field;
 
@@ -32,7 +32,9 @@ fn extract_opened<F: Field>(
     if edges::row_fails(field, edges, word, code.header().rows as usize) {
         return Err(CoderRefusal::RowFails);
     }
-    let elimination = Elimination::new(field, code);
+    let mut products = [0; 4096];
+    products::multiply_all(field, &mut products);
+    let elimination = Elimination::new(field, &products, code);
     let mut owners = [None; 128];
     let owners = &mut owners[0..elimination.rows];
     elimination.eliminate(edges, owners, scratch);

@@ -6,16 +6,16 @@ use crate::codes;
 use crate::elimination::Elimination;
 use field::{Field, fill};
 
-// The product of any two codes.
-pub(crate) fn multiply_all<F: Field>(field: &F) -> [u8; 4096]
-    ensures { Products (F.Field.meaning field.now) result }
+// Writes the product of any two codes.
+pub(crate) fn multiply_all<F: Field>(field: &F, products: &mut [u8; 4096])
+    ensures { Products (F.Field.meaning field.now) products.new }
 {
-    let mut products = [0; 4096];
     let q = field.order() as usize;
-    fill(&mut products[..q * q], |k| {
-        field.product((k / q) as u8, (k % q) as u8)
-    });
-    products
+    for a in 0..q {
+        fill(&mut products[a * q..a * q + q], |b| {
+            field.product(a as u8, b as u8)
+        });
+    }
 }
 
 impl<'f, F: Field> Elimination<'f, F> {
