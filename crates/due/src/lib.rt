@@ -23,6 +23,59 @@ pub fn numbers_of(code: &Code) -> Numbers
     Numbers::new(code.header(), code.edges().len())
 }
 
+// Whether the field has the code's order.
+pub fn has_order<F: Field>(field: &F, code: &Code) -> bool
+    ensures { result ≡ ((F.Field.meaning field.now).order == (view code.now).header.order) }
+{
+    u16::from(field.order()) == code.header().order
+}
+
+// Whether a slip's numbers are the code's.
+#[tactic(auto, unfolding(tree::specs::Frame::same_numbers))]
+pub fn has_numbers(numbers: Numbers, code: &Code) -> bool
+    ensures { result ≡ same_numbers (numbers_in numbers) (numbers_of (view code.now)) }
+{
+    numbers == numbers_of(code)
+}
+
+// Whether the area has the words that the code asks for.
+pub fn has_room(code: &Code, area: &[u16]) -> bool
+    ensures { result ≡ nat_le (area_words (view code.now)) (length area.now) }
+{
+    let header = code.header();
+    let blocks = 2 * header.columns as usize + 2 * code.edges().len() + 36;
+    blocks * header.order as usize <= area.len()
+}
+
+// Whether the code has the column.
+pub fn has_column(code: &Code, column: u16) -> bool
+    ensures { result ≡ nat_lt column (view code.now).header.columns }
+{
+    column < code.header().columns
+}
+
+// Whether a vector is as long as the field has codes.
+pub fn has_codes(code: &Code, size: usize) -> bool
+    ensures { result ≡ (size == (view code.now).header.order) }
+{
+    size == code.header().order as usize
+}
+
+// Whether a word is as long as the code has columns.
+pub fn has_columns(code: &Code, size: usize) -> bool
+    ensures { result ≡ (size == (view code.now).header.columns) }
+{
+    size == code.header().columns as usize
+}
+
+// Stays (plain): like `has_column`, of another number; one function for both would be the comparison itself.
+// Whether a round is left.
+pub fn has_rounds(code: &Code, made: u16) -> bool
+    ensures { result ≡ nat_lt made (view code.now).header.limit }
+{
+    made < code.header().limit
+}
+
 // Goes on where a test holds, and refuses where it does not.
 pub fn want(holds: bool, refusal: FrameRefusal) -> Result<(), FrameRefusal>
     ensures { result ≡ (if holds then Ok tt else Err refusal) }
@@ -37,56 +90,49 @@ pub fn want(holds: bool, refusal: FrameRefusal) -> Result<(), FrameRefusal>
 pub fn want_order<F: Field>(field: &F, code: &Code) -> Result<(), FrameRefusal>
     ensures { result ≡ (if (F.Field.meaning field.now).order == (view code.now).header.order then Ok tt else Err FrameRefusal.Order) }
 {
-    let holds = u16::from(field.order()) == code.header().order;
-    want(holds, FrameRefusal::Order)
+    want(has_order(field, code), FrameRefusal::Order)
 }
 
 // Wants a slip with the code's numbers.
-#[tactic(auto, unfolding(tree::specs::Frame::same_numbers))]
 pub fn want_numbers(numbers: Numbers, code: &Code) -> Result<(), FrameRefusal>
     ensures { result ≡ (if same_numbers (numbers_in numbers) (numbers_of (view code.now)) then Ok tt else Err FrameRefusal.Numbers) }
 {
-    want(numbers == numbers_of(code), FrameRefusal::Numbers)
+    want(has_numbers(numbers, code), FrameRefusal::Numbers)
 }
 
 // Wants as many words in the area as the code asks for.
 pub fn want_area(code: &Code, area: &[u16]) -> Result<(), FrameRefusal>
     ensures { result ≡ (if nat_le (area_words (view code.now)) (length area.now) then Ok tt else Err FrameRefusal.Area) }
 {
-    let header = code.header();
-    let blocks = 2 * header.columns as usize + 2 * code.edges().len() + 36;
-    let words = blocks * header.order as usize;
-    want(words <= area.len(), FrameRefusal::Area)
+    want(has_room(code, area), FrameRefusal::Area)
 }
 
 // Wants a column of the code.
 pub fn want_column(code: &Code, column: u16) -> Result<(), FrameRefusal>
     ensures { result ≡ (if nat_lt column (view code.now).header.columns then Ok tt else Err FrameRefusal.Column) }
 {
-    want(column < code.header().columns, FrameRefusal::Column)
+    want(has_column(code, column), FrameRefusal::Column)
 }
 
 // Wants a vector as long as the field has codes.
 pub fn want_codes(code: &Code, size: usize) -> Result<(), FrameRefusal>
     ensures { result ≡ (if size == (view code.now).header.order then Ok tt else Err FrameRefusal.Length) }
 {
-    want(size == code.header().order as usize, FrameRefusal::Length)
+    want(has_codes(code, size), FrameRefusal::Length)
 }
 
 // Wants a word as long as the code has columns.
 pub fn want_columns(code: &Code, size: usize) -> Result<(), FrameRefusal>
     ensures { result ≡ (if size == (view code.now).header.columns then Ok tt else Err FrameRefusal.Length) }
 {
-    let holds = size == code.header().columns as usize;
-    want(holds, FrameRefusal::Length)
+    want(has_columns(code, size), FrameRefusal::Length)
 }
 
-// Stays (plain): like `want_column`, of another number and another refusal; one function of these would be `want` again.
 // Wants a round that is left.
 pub fn want_round(code: &Code, made: u16) -> Result<(), FrameRefusal>
     ensures { result ≡ (if nat_lt made (view code.now).header.limit then Ok tt else Err FrameRefusal.Limit) }
 {
-    want(made < code.header().limit, FrameRefusal::Limit)
+    want(has_rounds(code, made), FrameRefusal::Limit)
 }
 
 // What a round tells: the rounds made, how many rows fail, and the pairs of its joins.

@@ -1,10 +1,10 @@
 use Rattle.std.proofs.Common.{◌+◌, ◌*◌, ◌≤◌, length, sym, ap, subst, arith}
 use Rattle.std.proofs.lemmas.Nat.{mul-le}
 use Rattle.code.proofs.Lawfully.{rules_of}
-use Rattle.due.proofs.want_area.Goals as goal
+use Rattle.due.proofs.has_room.Goals as goal
 
-pub overflow_mul-words : goal.overflow_mul-words
-overflow_mul-words c =
+pub overflow_mul-result : goal.overflow_mul-result
+overflow_mul-result c =
     let R = rules_of _ _ _ c.args.code.now.admitted in
     let e = c.header-header.ensures.answer in
     let f = ap length c.edges.ensures.answer in
