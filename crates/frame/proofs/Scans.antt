@@ -1,11 +1,10 @@
 -- One more turn of a walk over words, edges or codes. Assumes nothing.
-use Rattle.std.proofs.Common.{◌≡◌, ℕ, zero, suc, pred, ◌+◌, ◌-◌, ◌*◌, ◌<◌, ◌≤◌, min, Bool, true, false, cond, ◌&&◌, ltb, leb, ◌≢◌, ◌⊎◌, List, [], ◌∷◌, length, get_or, take, drop, ◌++◌, set, sym, refl, ap, ◌∙◌, subst, ap₂, inl, inr, add-one, arith, get_or-set_other, get_or-set_same}
-use Rattle.std.specs.List.{fold, list_all}
-use Rattle.std.proofs.Math.Nat.{suc-mul, add-mul}
+use Rattle.std.proofs.Common.{◌≡◌, ℕ, zero, suc, pred, ◌+◌, ◌-◌, ◌*◌, ◌<◌, ◌≤◌, min, Bool, true, false, cond, ◌&&◌, ltb, leb, ◌≢◌, ◌⊎◌, List, [], ◌∷◌, length, get_or, take, drop, set, sym, refl, ap, length-drop, ◌∙◌, subst, ap₂, inl, inr, add-one, arith, get_or-set_other, get_or-set_same}
+use Rattle.std.specs.List.{fold, list_all, range_with_len}
 use Rattle.std.proofs.Math.Bool.{and_assoc, and_comm}
 use Rattle.std.proofs.lemmas.Nat.{mul-le}
 use Rattle.std.proofs.lemmas.List.Edits.{length-between}
-use Rattle.std.proofs.lemmas.List.{get_or-take, get_or-drop, places}
+use Rattle.std.proofs.lemmas.List.{get_or-take, get_or-drop, length-take-le}
 use Rattle.std.proofs.lemmas.Bool.{cases_eq, and_from, and_left, and_right}
 use Rattle.tree.specs.Over.{over, count, every, least_to, lowest_to}
 use Rattle.tree.proofs.Words.{lowest_low}
@@ -64,22 +63,27 @@ all_every test (x ∷ xs) =
     and_true true = refl
     and_true false = refl
 
-every_parts : (n q : ℕ) (test : ℕ → Bool) → every (n * q) test ≡ every n (λ c. every q (λ a. test (c * q + a)))
-unfolding every
-every_parts zero q test = ap (λ k. every k test) (let z : 0 * q ≡ 0 = omega arith in z)
-every_parts (suc n) q test =
-    ap (λ k. every k test) (suc-mul n q)
-    ∙ every_more (n * q) q test ∙ ap (λ b. every q (λ a. test (n * q + a)) && b) (every_parts n q test)
+-- what holds of a block's words
+pub low_block : (area : List ℕ) (q j top : ℕ) → j * q + q ≤ length area → list_all (λ x. leb x top) (block q j area) ≡ every q (λ a. leb (get_or area (j * q + a) 0) top)
+unfolding block
+low_block area q j top h =
+    let l : length (take q (drop (j * q) area)) ≡ q = length-take-le q (drop (j * q) area) (omega (arith, length-drop (j * q) area)) in
+    all_every (λ x. leb x top) (take q (drop (j * q) area))
+    ∙ every_same _ q _ _ l (λ a k. ap (λ x. leb x top) (get_or-take q (drop (j * q) area) a 0 (omega (arith, l)) ∙ get_or-drop (j * q) area a 0))
 
--- what holds of the words of the n blocks from s on
-pub blocks_every : (area : List ℕ) (q s n top : ℕ) → (s + n) * q ≤ length area → let part = take ((s + n) * q - s * q) (drop (s * q) area) in
-    every (length part) (λ a. leb (get_or part a 0) top) ≡ every n (λ c. every q (λ a. leb (get_or area ((s + c) * q + a) 0) top))
-blocks_every area q s n top h =
-    let z : (s + n) * q ≡ s * q + n * q = add-mul s n q in
-    let l : length (take ((s + n) * q - s * q) (drop (s * q) area)) ≡ n * q = length-between area (s * q) ((s + n) * q) h ∙ (let w : (s + n) * q - s * q ≡ n * q = omega arith in w) in
-    every_same _ (n * q) _ (λ a. leb (get_or area (s * q + a) 0) top) l (λ a k. ap (λ v. leb v top) (get_or-take ((s + n) * q - s * q) (drop (s * q) area) a 0 (omega arith) ∙ get_or-drop (s * q) area a 0))
-    ∙ every_parts n q (λ a. leb (get_or area (s * q + a) 0) top)
-    ∙ every_same n n _ _ refl (λ c k. every_same q q _ _ refl (λ a l. ap (λ p. leb (get_or area p 0) top) (let w : s * q + (c * q + a) ≡ (s + c) * q + a = omega (arith, add-mul s c q) in w)))
+-- `all` over the n numbers from s on
+pub all_from : (p : ℕ → Bool) (s n : ℕ) → list_all p (range_with_len s n) ≡ every n (λ c. p (s + c))
+unfolding every
+all_from p s zero = refl
+all_from p s (suc n) =
+    let f : ℕ → Bool = λ c. p (s + c) in
+    ap (λ b. p s && b) (all_from p (s + 1) n) ∙ and_comm (p s) (every n (λ c. p (s + 1 + c)))
+    ∙ ap₂ ◌&&◌ (every_same n n _ (λ c. f (1 + c)) refl (λ c l. ap p (let z : s + 1 + c ≡ s + (1 + c) = omega arith in z))) (ap p (let z : s ≡ s + 0 = omega arith in z) ∙ sym (and_true (p (s + 0))))
+    ∙ sym (every_more 1 n f) ∙ ap (λ k. every k f) (let z : 1 + n ≡ suc n = omega arith in z)
+  where
+    and_true : (b : Bool) → (b && true) ≡ b
+    and_true true = refl
+    and_true false = refl
 
 -- ---- the lowest place of the least
 pub lowest_next : (a : ℕ) (f : ℕ → ℕ) (best : ℕ) → best ≡ lowest_to (pred a) f → cond (ltb (f a) (f best)) a best ≡ lowest_to (pred (a + 1)) f
@@ -130,17 +134,23 @@ set_below i v xs f h below e k l = go (cases_eq k i)
     go (inl z) = subst (λ m. get_or (set xs i v) m 0 ≡ f m) (sym z) (rw get_or-set_same e)
     go (inr d) = let ne : k ≢ i = d in rw get_or-set_other (below k (omega arith))
 
--- words written all at once
-pub written_over : (at n : ℕ) (f : ℕ → ℕ) (before v : List ℕ) → at + n ≤ length before → length v ≡ n → ((a : ℕ) → a < n → get_or v a 0 ≡ f a) →
-    Written at (at + n) f before (take at before ++ (v ++ drop (at + n) before))
-written_over at n f before v h l e = record {
-  there = λ k m. let z : get_or (take at before ++ (v ++ drop (at + n) before)) (at + k) 0 ≡ get_or v k 0 = grind (arith, places) in z ∙ e k (omega arith);
-  kept = kept;
-}
+-- words written one after another
+pub written_none : (from : ℕ) (f : ℕ → ℕ) (before : List ℕ) → Written from (from + 0) f before before
+written_none from f before = record { there = λ k h. absurd (let z : ⊥ = omega arith in z); kept = λ k h. refl }
+
+pub written_more : (from n v : ℕ) (f : ℕ → ℕ) (before area : List ℕ) → Written from (from + n) f before area → from + n < length area → v ≡ f n → Written from (from + (n + 1)) f before (set area (from + n) v)
+written_more from n v f before area B h e = record { there = there; kept = kept }
   where
-    kept : (k : ℕ) → (k < at) ⊎ (at + n ≤ k) → get_or (take at before ++ (v ++ drop (at + n) before)) k 0 ≡ get_or before k 0
-    kept k (inl m) = grind (arith, places)
-    kept k (inr m) = grind (arith, places)
+    there : (k : ℕ) → from + k < from + (n + 1) → get_or (set area (from + n) v) (from + k) 0 ≡ f k
+    there k l = go (cases_eq k n)
+      where
+        go : (k ≡ n) ⊎ (k ≡ n → ⊥) → get_or (set area (from + n) v) (from + k) 0 ≡ f k
+        go (inl z) = subst (λ m. get_or (set area (from + n) v) (from + m) 0 ≡ f m) (sym z) (rw get_or-set_same e)
+        go (inr d) = let ne : k ≢ n = d in let m : from + k ≢ from + n = omega arith in rw get_or-set_other (B.there k (omega arith))
+
+    kept : (k : ℕ) → (k < from) ⊎ (from + (n + 1) ≤ k) → get_or (set area (from + n) v) k 0 ≡ get_or before k 0
+    kept k (inl l) = let m : k ≢ from + n = omega arith in rw get_or-set_other (B.kept k (inl l))
+    kept k (inr l) = let m : k ≢ from + n = omega arith in rw get_or-set_other (B.kept k (inr (omega arith)))
 
 -- ---- folds
 pub over_yes : (op : ℕ → ℕ → ℕ) (u n : ℕ) (test : ℕ → Bool) (f : ℕ → ℕ) → test n ≡ true → over op u (n + 1) test f ≡ op (f n) (over op u n test f)

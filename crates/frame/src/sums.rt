@@ -4,7 +4,7 @@ ghost use Rattle.frame.specs.Blocks.{block, blocks, put};
 ghost use Rattle.frame.specs.Row.{LowBlocks};
 ghost use Rattle.frame.specs.Columns.{added, word, entry_at, Rising, HasAt, SummedTo};
 
-use crate::blocks::{Sizes, copied};
+use crate::blocks::{Sizes, block_at, copied, put_back};
 use crate::find::edge_at;
 use code::table::{Edge, Entry};
 
@@ -29,8 +29,10 @@ fn add_block(area: &mut [u16], sizes: Sizes, i: usize, j: usize)
     ensures { area.new ≡ put sizes.q j (added sizes.q (block sizes.q j area.old) (block sizes.q i area.old)) area.old }
 {
     let q = sizes.q;
-    let v = copied(area, q, i);
-    add(&mut area[j * q..j * q + q], &v[0..q]);
+    let mut out = copied(area, q, j);
+    let out = &mut out[0..q];
+    add(out, block_at(area, q, i));
+    put_back(area, q, j, out);
 }
 
 // Adds the from-check block of each entry's edge to the block of its column's distances.

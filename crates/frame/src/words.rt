@@ -39,7 +39,9 @@ pub fn store(area: &mut [u16], at: usize, values: &[u16], ceiling: u16)
     requires { (1 ≤ length values.now) × (at + length values.now ≤ length area.old) }
     ensures { Written at (at + length values.now) (store_at values.now ceiling) area.old area.new }
 {
-    let stored = &mut area[at..at + values.len()];
-    stored.copy_from_slice(values);
-    reduce(stored, ceiling);
+    // Stays (speed): in one pass; copied first and then lessened where they lie, a few values took up to twice the time.
+    let m = least(values);
+    for (a, value) in values.iter().enumerate() {
+        area[at + a] = reduced(*value, m, ceiling);
+    }
 }
