@@ -9,7 +9,7 @@ ghost use Rattle.anyfield.specs.declared.written.FieldFault.TheVariants.{Refused
 use crate::any::AnyField;
 use binary::Binary;
 use field::FieldRefusal;
-use notation::Parts;
+use notation::{Parts, is_name};
 use prime::Prime;
 
 // Why a text gives no field: it is not written as fields are, or the field is refused.
@@ -92,7 +92,7 @@ fn towers_from(base: AnyField, towers: usize, parts: &mut Parts) -> Result<AnyFi
 fn is_tower(name: &[u8]) -> bool
     ensures { result ≡ bytes_eq name.now (codes "tower") }
 {
-    matches!(name, b"tower")
+    is_name(name, b"tower")
 }
 
 // How often the word `tower` comes, and the word behind.

@@ -1,0 +1,7 @@
+use Rattle.std.proofs.Common.{rules}
+use Rattle.std.proofs.lemmas.Slice.Eq.{bytes_eq-Decides, slice_eq-Decides}
+use Rattle.notation.proofs.names.is_name.Goals as goal
+use Rattle.std.proofs.lemmas.Bool.Decides.{Decides-eqb}
+
+pub returns : goal.returns
+returns c = let d = slice_eq-Decides Decides-eqb c.args.text.now c.args.name.now c.eq.result c.eq.ensures in search (rules, bytes_eq-Decides)
