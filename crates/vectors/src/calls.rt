@@ -22,11 +22,17 @@ pub enum Call {
 // Calls on the code in use.
 #[derive(Drop)]
 pub enum CodeCall {
-    Open,
     Load { column: u16, values: Vec<u16> },
     Start,
-    Round,
     Read { column: u16, size: Option<usize> },
+    OverField(FieldCall),
+}
+
+// Those that are made over the field in use.
+#[derive(Drop)]
+pub enum FieldCall {
+    Open,
+    Round,
     Conclude(Option<usize>),
     Encode(Coding),
     Extract(Coding),

@@ -1,5 +1,5 @@
 // What is in hand, and from a line to its answer.
-use crate::calls::{Call, CodeCall, Join};
+use crate::calls::{Call, CodeCall, FieldCall, Join};
 use crate::coding;
 use crate::frames::Frame;
 use crate::joining::Joining;
@@ -10,7 +10,7 @@ use anyfield::AnyField;
 use binary::Binary;
 use code::code::Code;
 use field::Field;
-use joiner::Joiner;
+use joiner::{Full, Joiner, Selective};
 use prime::Prime;
 use std::alloc::Global;
 use std::io::BufRead;
@@ -68,23 +68,25 @@ impl Hand {
         })))
     }
 
-    // A call on the code in use, and perhaps on the field and the frame.
+    // A call on the code in use.
+    // Stays (speed): the kinds of field and joiner are asked once a call here and in `over_field`: asked at each sum and join, as a value of
+    // either kind would be, rounds took up to 2.55 times as long and encoding 1.75 times.
     fn on_code(&mut self, call: &CodeCall) -> Result<Reply, Stop> {
         let tables = self.tables.as_ref().ok_or(Stop::Lacks)?;
         let mut code = Code::builtin();
         tables.admit_into(&mut code)?;
         let heap = self.heap;
-        let field = self.field.as_ref().ok_or(Stop::Lacks);
+        let joining = self.joining;
         let frame = &mut self.frame;
         match call {
-            CodeCall::Open => frame.open(field?, &code),
             CodeCall::Load { column, values } => frame.load(&code, *column, values.as_slice()),
             CodeCall::Start => frame.start(&code),
-            CodeCall::Round => frame.round(field?, &self.joining, &code),
             CodeCall::Read { column, size } => frame.read(heap, &code, *column, *size),
-            CodeCall::Conclude(size) => frame.conclude(heap, field?, &code, *size),
-            CodeCall::Encode(coding) => coding::encode(heap, field?, &code, coding),
-            CodeCall::Extract(coding) => coding::extract(heap, field?, &code, coding),
+            CodeCall::OverField(call) => match self.field.as_ref().ok_or(Stop::Lacks)? {
+                AnyField::Prime(field) => over_field(heap, field, joining, &code, frame, call),
+                AnyField::Binary(field) => over_field(heap, field, joining, &code, frame, call),
+                AnyField::Tower(field) => over_field(heap, field, joining, &code, frame, call),
+            },
         }
     }
 
@@ -119,5 +121,26 @@ impl Hand {
     pub fn answer<R: BufRead>(&mut self, line: &[u8], input: &mut R) -> Result<Reply, Stop> {
         let call = call_of(self.heap, line)?;
         self.perform(&call, input)
+    }
+}
+
+// A call on the code over a field, and perhaps on the frame.
+fn over_field<F: Field>(
+    heap: Global,
+    field: &F,
+    joining: Joining,
+    code: &Code,
+    frame: &mut Frame,
+    call: &FieldCall,
+) -> Result<Reply, Stop> {
+    match call {
+        FieldCall::Open => frame.open(field, code),
+        FieldCall::Round => match joining {
+            Joining::Full => frame.round(field, &Full, code),
+            Joining::Selective => frame.round(field, &Selective, code),
+        },
+        FieldCall::Conclude(size) => frame.conclude(heap, field, code, *size),
+        FieldCall::Encode(coding) => coding::encode(heap, field, code, coding),
+        FieldCall::Extract(coding) => coding::extract(heap, field, code, coding),
     }
 }

@@ -1,5 +1,5 @@
 // From the fields of a line to a call.
-use crate::calls::{Call, CodeCall, Coding, Join, Sampling};
+use crate::calls::{Call, CodeCall, Coding, FieldCall, Join, Sampling};
 use crate::joining::Joining;
 use crate::lists::list;
 use crate::replies::Stop;
@@ -93,23 +93,27 @@ impl<'a> Fields<'a> {
                 fill: self.value()?,
             },
             b"sample" => Call::Sample(self.sampling()?),
-            b"open" => Call::OnCode(CodeCall::Open),
+            b"open" => over_field(FieldCall::Open),
             b"load" => Call::OnCode(CodeCall::Load {
                 column: self.value()?,
                 values: self.list()?,
             }),
             b"start" => Call::OnCode(CodeCall::Start),
-            b"round" => Call::OnCode(CodeCall::Round),
+            b"round" => over_field(FieldCall::Round),
             b"read" => Call::OnCode(CodeCall::Read {
                 column: self.value()?,
                 size: self.last_size()?,
             }),
-            b"conclude" => Call::OnCode(CodeCall::Conclude(self.last_size()?)),
-            b"encode" => Call::OnCode(CodeCall::Encode(self.coding()?)),
-            b"extract" => Call::OnCode(CodeCall::Extract(self.coding()?)),
+            b"conclude" => over_field(FieldCall::Conclude(self.last_size()?)),
+            b"encode" => over_field(FieldCall::Encode(self.coding()?)),
+            b"extract" => over_field(FieldCall::Extract(self.coding()?)),
             _ => return Err(Stop::Bad),
         })
     }
+}
+
+fn over_field(call: FieldCall) -> Call {
+    Call::OnCode(CodeCall::OverField(call))
 }
 
 fn size(text: &[u8]) -> Result<usize, Stop> {
